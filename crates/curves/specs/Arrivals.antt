@@ -1,0 +1,11 @@
+-- Arrivals of a head, at most (document 01, 'Curves').
+use Prim.Native.Nat.{ℕ, zero, suc, _+_, _-_, _/_, min}
+
+-- x / y rounded up
+unfoldable pub ceiling : ℕ → ℕ → ℕ
+ceiling x y = (x + (y - 1)) / y
+
+-- a(D), of T, J and d: a(0) = 0 whatever J; for D over 0 the smaller of (D + J) / T and D / d, each rounded up
+unfoldable pub arrivals : ℕ → ℕ → ℕ → ℕ → ℕ
+arrivals period jitter distance zero = 0
+arrivals period jitter distance (suc n) = min (ceiling (suc n + jitter) period) (ceiling (suc n) distance)

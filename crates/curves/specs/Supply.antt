@@ -1,0 +1,14 @@
+-- Supply, at least (document 01, 'Curves': the periodic resource model cited by 003).
+use mathlib.Core.Bool.{Bool, true, false}
+use Prim.Native.Nat.{ℕ, _+_, _*_, _-_, _/_}
+use lib.Dec.{ltb}
+
+-- s(D) at D at least g: with k = (D - g) / P rounded down, k × Q + the larger of 0 and D - 2 × g - k × P
+abbrev pub suppliedPast : ℕ → ℕ → ℕ → ℕ → ℕ
+suppliedPast budget period g n = let k : ℕ = (n - g) / period in k * budget + (n - (2 * g + k * period))
+
+-- s(D), of Q and P: with g = P - Q, 0 for D below g
+unfoldable pub supply : ℕ → ℕ → ℕ → ℕ
+supply budget period n =
+    let g : ℕ = period - budget in
+    elim (ltb n g) [ true ↦ 0 | false ↦ suppliedPast budget period g n ]

@@ -1,0 +1,1 @@
+// The curves of document 01: arrivals, cost and supply, as functions on numbers.
