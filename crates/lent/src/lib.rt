@@ -1,0 +1,1 @@
+// Numbers in lent bytes, little-endian.

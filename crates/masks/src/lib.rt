@@ -1,0 +1,1 @@
+// Sixteen-bit masks of callbacks.

@@ -1,0 +1,26 @@
+-- "Priority goes by kind number, then by index; the smaller goes first."
+use mathlib.Core.Bool.{Bool, true, false, _&&_, _||_}
+use Prim.Native.Nat.{ℕ, zero, suc}
+use lib.Dec.{eqb, ltb}
+use Rattle.curves.specs.Least.{lowest, lowestFrom}
+use Rattle.table.specs.declared.Table.{Table}
+use Rattle.table.specs.Numbers.{timer, client}
+use Rattle.table.specs.Values.{kindOf}
+
+-- whether slot i is a timer
+abbrev pub isTimer : Table → ℕ → Bool
+isTimer t i = eqb (kindOf t i) timer
+
+-- whether slot i has the higher priority
+unfoldable pub precedes : Table → ℕ → ℕ → Bool
+precedes t i j = ltb (kindOf t i) (kindOf t j) || (eqb (kindOf t i) (kindOf t j) && ltb i j)
+
+-- the lowest callback of the kinds from `kind` on, f of them, that passes: an index, or 0
+unfoldable pub foremostFrom : Table → (ℕ → Bool) → ℕ → ℕ → ℕ
+foremostFrom t p zero kind = 0
+foremostFrom t p (suc f) kind =
+    elim (lowest (λ i. eqb (kindOf t i) kind && p i) (t .count)) [ zero ↦ foremostFrom t p f (suc kind) | suc i ↦ suc i ]
+
+-- the first callback in priority that passes: an index, or 0 where none does
+abbrev pub foremost : Table → (ℕ → Bool) → ℕ
+foremost t p = foremostFrom t p client timer
