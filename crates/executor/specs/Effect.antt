@@ -1,0 +1,117 @@
+-- The effect of one tick, steps 1 to 4 of document 01, over unbounded counts; the refusals stand in front of it (Tick).
+use mathlib.Core.Bool.{Bool, true, false, cond, not, _&&_}
+use mathlib.Core.List.{List}
+use Prim.Native.Nat.{ℕ, zero, suc, _+_, _-_}
+use lib.Dec.{eqb, ltb}
+use lib.ListN.{getD, set}
+use Rattle.masks.specs.Mask.{has, withoutBit, gather, countOf}
+use Rattle.table.specs.declared.Table.{Table}
+use Rattle.table.specs.Numbers.{places}
+use Rattle.table.specs.Values.{nextOf}
+use Rattle.table.specs.Priority.{foremost}
+use Rattle.executor.specs.declared.Answer.{Answer}
+use Rattle.executor.specs.declared.Answer.the-variants.{NoSupply, Idle, Ran, Finished}
+use Rattle.executor.specs.declared.Choice.{Choice}
+use Rattle.executor.specs.declared.Machine.{Machine}
+use Rattle.executor.specs.declared.Reply.the-variants.{Answered}
+use Rattle.executor.specs.declared.Ticked.{Ticked}
+use Rattle.executor.specs.State.{isPolled}
+
+-- one more waiting for slot i
+abbrev pub gained : ℕ → List ℕ → List ℕ
+gained i ws = set ws i (getD ws i 0 + 1)
+
+-- the first k slots of step 1
+unfoldable pub arrivedTo : ℕ → ℕ → List ℕ → List ℕ
+arrivedTo mask zero ws = ws
+arrivedTo mask (suc i) ws = cond (has mask i) (gained i (arrivedTo mask i ws)) (arrivedTo mask i ws)
+
+-- step 1: "Heads in the mask gain one waiting instance each."
+unfoldable pub arrived : ℕ → List ℕ → List ℕ
+arrived mask ws = arrivedTo mask places ws
+
+-- "activates next": the callback of an index gains one waiting instance; 0 ends the chain
+unfoldable pub activated : ℕ → List ℕ → List ℕ
+activated zero ws = ws
+activated (suc j) ws = gained j ws
+
+-- the state after a tick: one tick more is taken
+abbrev pub after : Machine → List ℕ → List ℕ → ℕ → ℕ → ℕ → Machine
+after m ws fs c r u =
+    record { table = m .table; waiting = ws; finished = fs; cache = c; running = r; units = u; clock = m .clock + 1 }
+
+-- a tick that is answered
+abbrev pub answered : Machine → Answer → Bool → Bool → ℕ → Ticked
+answered m a started polled gathered = record { machine = m; reply = Answered a; started = started; polled = polled; gathered = gathered }
+
+-- whether slot i waits
+abbrev pub waits : List ℕ → ℕ → Bool
+waits ws i = ltb 0 (getD ws i 0)
+
+abbrev pub choice : ℕ → ℕ → Bool → ℕ → Choice
+choice i c polled gathered = record { chosen = i; cache = c; polled = polled; gathered = gathered }
+
+-- "the cache takes every non-timer that waits"
+unfoldable pub gatheredOf : Table → List ℕ → ℕ
+gatheredOf t ws = gather (λ i. isPolled t i && waits ws i) (t .count)
+
+-- "this is a polling point: the cache takes every non-timer that waits, and the first in it is chosen, if any"
+abbrev pub pollingPoint : Table → ℕ → Choice
+pollingPoint t c = choice (foremost t (has c)) c true (countOf places c)
+
+-- step 3: "the first timer in priority that waits is chosen. If none waits, the first callback in the cache. If the cache is empty too, this is a polling point"
+unfoldable pub choose : Table → ℕ → List ℕ → Choice
+choose t c ws =
+    elim (foremost t (λ i. not (isPolled t i) && waits ws i)) [
+      | suc i ↦ choice (suc i) c false 0
+      | zero ↦ elim (foremost t (has c)) [ suc i ↦ choice (suc i) c false 0 | zero ↦ pollingPoint t (gatheredOf t ws) ]
+    ]
+
+-- the instance of slot i that is to run: "Instances count from 1"
+abbrev pub instanceAt : Machine → ℕ → ℕ
+instanceAt m i = getD (m .finished) i 0 + 1
+
+-- step 4 at zero: slot i "finishes .., leaves its callback's waiting count and the cache, and activates next"
+unfoldable pub finishes : Machine → List ℕ → ℕ → ℕ → Bool → Bool → ℕ → Ticked
+finishes m ws c i started polled gathered =
+    answered
+    (after m (activated (nextOf (m .table) i) (set ws i (getD ws i 0 - 1))) (set (m .finished) i (instanceAt m i)) (withoutBit c i) 0 0)
+    (Finished (suc i) (instanceAt m i))
+    started
+    polled
+    gathered
+
+-- step 4 above zero: slot i goes on, with u units left
+unfoldable pub continues : Machine → List ℕ → ℕ → ℕ → ℕ → Bool → Bool → ℕ → Ticked
+continues m ws c i u started polled gathered =
+    answered (after m ws (m .finished) c (suc i) u) (Ran (suc i) (instanceAt m i)) started polled gathered
+
+-- step 4: "The running instance loses one unit", u of slot i being left before
+unfoldable pub worked : Machine → List ℕ → ℕ → ℕ → ℕ → Bool → Bool → ℕ → Ticked
+worked m ws c i u started polled gathered =
+    elim (eqb u 1) [ true ↦ finishes m ws c i started polled gathered | false ↦ continues m ws c i (u - 1) started polled gathered ]
+
+-- "The chosen instance starts and runs, its units being the tick's cost"; where nobody is chosen the tick is idle
+unfoldable pub begun : Machine → List ℕ → ℕ → Choice → Ticked
+begun m ws cost x =
+    elim (x .chosen) [
+      | zero ↦ answered (after m ws (m .finished) (x .cache) 0 0) Idle false (x .polled) (x .gathered)
+      | suc i ↦ worked m ws (x .cache) i cost true (x .polled) (x .gathered)
+    ]
+
+-- steps 3 and 4, after the arrivals
+unfoldable pub served : Machine → List ℕ → ℕ → Ticked
+served m ws cost =
+    elim (m .running) [
+      | zero ↦ begun m ws cost (choose (m .table) (m .cache) ws)
+      | suc i ↦ worked m ws (m .cache) i (m .units) false false 0
+    ]
+
+-- the whole tick; step 2: "In an unsupplied tick nothing else happens."
+unfoldable pub effect : Machine → ℕ → Bool → ℕ → Ticked
+effect m mask supplied cost =
+    let ws : List ℕ = arrived mask (m .waiting) in
+    elim supplied [
+      | true ↦ served m ws cost
+      | false ↦ answered (after m ws (m .finished) (m .cache) (m .running) (m .units)) NoSupply false false 0
+    ]
