@@ -1,7 +1,8 @@
--- Steps along `next`, which takes a slot (from 0) and gives an index (from 1), or 0 where the chain ends.
+-- walk next k x: the index that k steps along `next` lead to from index x, 0 where the walk has ended.
+-- `next` takes a slot (from 0) and gives an index (from 1), 0 at the end of a chain.
 use Prim.Native.Nat.{ℕ, zero, suc}
 
--- where k steps from index x lead; 0 where the walk has ended
+-- k completions on: each completion activates next, where zero ends the chain
 unfoldable pub walk : (ℕ → ℕ) → ℕ → ℕ → ℕ
 walk next zero x = x
 walk next (suc k) zero = 0

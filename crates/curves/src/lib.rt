@@ -1,1 +1,60 @@
 // The curves of document 01: arrivals, cost and supply, as functions on numbers.
+// They assume what the reader has tested of a table. Lengths go up to 120,000, twice the longest horizon.
+ghost use mathlib.Core.Path.{_≡_};
+ghost use Prim.Native.Nat.{ℕ, _<_, _≤_, _*_};
+ghost use lib.ListN.{take};
+ghost use Rattle.curves.specs.Arrivals.{arrivals as arrivalsOf};
+ghost use Rattle.curves.specs.Cost.{cost as costOf};
+ghost use Rattle.curves.specs.Supply.{supply as supplyOf};
+
+// a(length): the activations of a head in any window of that many ticks, at most; 0 for no ticks, whatever the jitter.
+pub fn arrivals(period: u32, jitter: u32, distance: u32, length: u32) -> u32
+    requires { ⌜ (0 < period) × (period ≤ 60000) × (jitter ≤ 60000) × (0 < distance) × (distance ≤ 60000) × (length ≤ 120000) ⌝ }
+    ensures { λ r. ⌜ (r ≡ arrivalsOf period jitter distance length) × (r ≤ length) ⌝ }
+{
+    if length == 0 {
+        return 0;
+    }
+    let periodic = (length + jitter + (period - 1)) / period;
+    let spaced = (length + (distance - 1)) / distance;
+    if periodic < spaced {
+        return periodic;
+    }
+    spaced
+}
+
+// E(count): the cost of that many consecutive instances, at most, by the first `used` of the entries.
+pub fn cost(entries: [u16; 8], used: u8, count: u32) -> u64
+    requires { ⌜ (1 ≤ used) × (used ≤ 8) ⌝ }
+    ensures { λ r. ⌜ (r ≡ costOf (take used entries) count) × (r ≤ 65535 * count) ⌝ }
+{
+    let m = used as u32;
+    let rounds = (count / m) as u64;
+    let whole = rounds * entries[used as usize - 1] as u64;
+    let left = (count % m) as usize;
+    if left == 0 {
+        return whole;
+    }
+    whole + entries[left - 1] as u64
+}
+
+// s(length): the supplied ticks of any window of that many ticks, at least.
+pub fn supply(budget: u32, period: u32, length: u32) -> u64
+    requires { ⌜ (0 < budget) × (budget ≤ period) × (period ≤ 60000) × (length ≤ 120000) ⌝ }
+    ensures { λ r. ⌜ (r ≡ supplyOf budget period length) × (r ≤ length) ⌝ }
+{
+    let q = budget as u64;
+    let p = period as u64;
+    let d = length as u64;
+    let gap = p - q;
+    if d < gap {
+        return 0;
+    }
+    let k = (d - gap) / p;
+    let whole = k * q;
+    let begun = 2 * gap + k * p;
+    if begun < d {
+        return whole + (d - begun);
+    }
+    whole
+}

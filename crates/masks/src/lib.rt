@@ -1,1 +1,45 @@
-// Sixteen-bit masks of callbacks.
+// Masks of sixteen bits, one bit for each callback of a table: slot i, counted from 0, is callback i + 1.
+// A slot is tested, set and cleared by shifts and masks; the slots are counted by the count of ones, and the first is found by
+// trailing zeros. What each function gives back is set out by arithmetic in specs/Mask.antt.
+
+ghost use mathlib.Core.Path.{_≡_};
+ghost use Prim.Native.Nat.{ℕ, _<_};
+ghost use Rattle.masks.specs.Mask.{has, withBit, withoutBit, countOf, firstOf};
+
+// Whether the mask has the slot.
+pub fn test_slot(mask: u16, slot: u16) -> bool
+    requires { ⌜ slot < 16 ⌝ }
+    ensures { λ r. ⌜ r ≡ has mask slot ⌝ }
+{
+    mask & (1 << slot) != 0
+}
+
+// The mask with the slot in it, whether it was there or not.
+pub fn set_slot(mask: u16, slot: u16) -> u16
+    requires { ⌜ slot < 16 ⌝ }
+    ensures { λ r. ⌜ r ≡ withBit mask slot ⌝ }
+{
+    mask | (1 << slot)
+}
+
+// The mask without the slot, whether it was there or not.
+pub fn clear_slot(mask: u16, slot: u16) -> u16
+    requires { ⌜ slot < 16 ⌝ }
+    ensures { λ r. ⌜ r ≡ withoutBit mask slot ⌝ }
+{
+    mask & !(1 << slot)
+}
+
+// How many slots the mask has, 0 to 16.
+pub fn count(mask: u16) -> u32
+    ensures { λ r. ⌜ r ≡ countOf 16 mask ⌝ }
+{
+    u16::count_ones(mask)
+}
+
+// The lowest slot that the mask has, 16 where it has none.
+pub fn first(mask: u16) -> u32
+    ensures { λ r. ⌜ r ≡ firstOf mask ⌝ }
+{
+    u16::trailing_zeros(mask)
+}

@@ -1,0 +1,1 @@
+// The busy-window argument: definitions and theorems, no functions.

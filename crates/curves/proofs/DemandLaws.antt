@@ -1,0 +1,45 @@
+-- Laws of the demand: whose instances are charged (limit-own, limit-other), and more instances bring more work (demand-le, demand-lt).
+use mathlib.Core.Path.{_≡_, refl}
+use mathlib.Core.Logic.{_≢_}
+use mathlib.Core.Bool.{Bool, true, false}
+use Prim.Native.Nat.{ℕ, zero, suc, _+_, _≤_, _<_}
+use native.Mathlib.Nat.{le-refl, le-of-lt}
+use native.Mathlib.Omega.{arith}
+use lib.Dec.{T, eqb, eqb→eq, eqb-refl}
+use Rattle.curves.specs.Demand.{demand, limit, Rising}
+use Rattle.curves.proofs.SumLaws.{sum-le, sum-lt, mono-upto}
+
+pub limit-own : (a : ℕ → ℕ → ℕ) (x A D : ℕ) → limit a x A D x ≡ a x (suc A)
+unfolding limit
+limit-own a x A D = go (eqb x x) (eqb-refl x)
+  where
+    go : (b : Bool) → T b → elim b [ true ↦ a x (suc A) | false ↦ a x D ] ≡ a x (suc A)
+    go true t = refl
+    go false t = absurd t
+
+pub limit-other : (a : ℕ → ℕ → ℕ) (x A D j : ℕ) → j ≢ x → limit a x A D j ≡ a j D
+unfolding limit
+limit-other a x A D j p = go (eqb j x) (λ t. p (eqb→eq j x t))
+  where
+    go : (b : Bool) → ¬ (T b) → elim b [ true ↦ a x (suc A) | false ↦ a j D ] ≡ a j D
+    go true t = absurd (t tt)
+    go false t = refl
+
+module _ (n : ℕ) (a e : ℕ → ℕ → ℕ) (up : Rising n a e) where
+  -- a longer window holds no fewer arrivals
+  pub arrivals-upto : (i d D : ℕ) → i < n → d ≤ D → a i d ≤ a i D
+  arrivals-upto i d D l h = mono-upto (a i) D (λ t _. up .a-up i t l) d D h (le-refl D)
+
+  -- more instances cost no less
+  pub cost-upto : (i m m' : ℕ) → i < n → m ≤ m' → e i m ≤ e i m'
+  cost-upto i m m' l h = mono-upto (e i) m' (λ t _. le-of-lt (up .e-up i t l)) m m' h (le-refl m')
+
+  -- and more of them cost more
+  pub cost-over : (i m m' : ℕ) → i < n → m < m' → e i m < e i m'
+  cost-over i m m' l h = omega (arith, up .e-up i m l, cost-upto i (suc m) m' l h)
+
+  pub demand-le : (m m' : ℕ → ℕ) → ((i : ℕ) → i < n → m i ≤ m' i) → demand n e m ≤ demand n e m'
+  demand-le m m' h = sum-le (λ i. e i (m i)) (λ i. e i (m' i)) n (λ i l. cost-upto i (m i) (m' i) l (h i l))
+
+  pub demand-lt : (m m' : ℕ → ℕ) (j : ℕ) → j < n → m j < m' j → ((i : ℕ) → i < n → m i ≤ m' i) → demand n e m < demand n e m'
+  demand-lt m m' j k s h = sum-lt (λ i. e i (m i)) (λ i. e i (m' i)) n j k (cost-over j (m j) (m' j) k s) (λ i l. cost-upto i (m i) (m' i) l (h i l))

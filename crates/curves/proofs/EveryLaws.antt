@@ -1,0 +1,117 @@
+-- Laws of tests, and of tests over the numbers below n.
+-- holds, fails, T-holds, T-fails: a test as a type and as an equation. and-holds, or-fails: of two tests.
+-- every: every-at, every-all, every-more, every-miss, every-false, every-same. some: some-at, some-hit, some-none, some-more, some-same.
+use mathlib.Core.Path.{_≡_, refl, sym, ap, ap₂, _∙_, subst}
+use mathlib.Core.Logic.{_⊎_, inl, inr}
+use mathlib.Core.Bool.{Bool, true, false, not, _&&_, _||_, and-false, or-true, true≢false}
+use Prim.Native.Nat.{ℕ, zero, suc, _+_, _≤_, _<_}
+use native.Mathlib.Nat.{eq-or-lt-of-le, le-of-suc-le-suc}
+use native.Mathlib.Numerals.{add-one}
+use native.Mathlib.Omega.{arith}
+use lib.Dec.{T}
+use Rattle.curves.specs.Every.{every, some}
+use Rattle.curves.proofs.SumLaws.{one-further}
+
+pub holds : (b : Bool) → T b → b ≡ true
+holds true t = refl
+holds false t = absurd t
+
+pub fails : (b : Bool) → T (not b) → b ≡ false
+fails true t = absurd t
+fails false t = refl
+
+pub T-holds : (b : Bool) → b ≡ true → T b
+T-holds b e = subst T (sym e) tt
+
+pub T-fails : (b : Bool) → b ≡ false → T (not b)
+T-fails b e = subst (λ (x : Bool). T (not x)) (sym e) tt
+
+-- a test cannot hold and fail
+pub never-both : (b : Bool) → b ≡ true → b ≡ false → ⊥
+never-both b e f = true≢false (sym e ∙ f)
+
+-- both of two tests hold
+pub and-holds : (a b : Bool) → (a && b) ≡ true → (a ≡ true) × (b ≡ true)
+and-holds true b e = (refl, e)
+and-holds false b e = absurd (never-both false e refl)
+
+-- neither of two tests holds
+pub or-fails : (a b : Bool) → (a || b) ≡ false → (a ≡ false) × (b ≡ false)
+or-fails true b e = absurd (never-both true refl e)
+or-fails false b e = (refl, e)
+
+module _ (p : ℕ → Bool) where
+  pub every-at : (n : ℕ) → every n p ≡ true → (i : ℕ) → i < n → p i ≡ true
+  unfolding every
+  every-at zero e i l = absurd (omega arith)
+  every-at (suc n) e i l =
+      one-further (λ j. p j ≡ true) n (every-at n (and-holds (every n p) (p n) e .0)) (and-holds (every n p) (p n) e .1) i l
+
+  pub every-all : (n : ℕ) → ((i : ℕ) → i < n → p i ≡ true) → every n p ≡ true
+  unfolding every
+  every-all zero h = refl
+  every-all (suc n) h = ap₂ _&&_ (every-all n (λ i l. h i (omega arith))) (h n (omega arith))
+
+  -- one number more, as a loop goes on
+  pub every-more : (n : ℕ) → every n p ≡ true → p n ≡ true → every (n + 1) p ≡ true
+  unfolding every
+  every-more n e f = ap (λ (k : ℕ). every k p) (add-one n) ∙ ap₂ _&&_ e f
+
+  -- one that fails
+  pub every-miss : (n i : ℕ) → i < n → p i ≡ false → every n p ≡ false
+  every-miss n i l f = go (every n p) refl
+    where
+      go : (b : Bool) → every n p ≡ b → b ≡ false
+      go true e = absurd (never-both (p i) (every-at n e i l) f)
+      go false e = refl
+
+  pub every-false : (n : ℕ) → every n p ≡ false → (i : ℕ) × (i < n) × (p i ≡ false)
+  unfolding every
+  every-false zero e = absurd (never-both true refl e)
+  every-false (suc n) e = go (p n) refl (every n p) refl (λ f. every-false n f)
+    where
+      go : (b : Bool) → p n ≡ b → (c : Bool) → every n p ≡ c → (every n p ≡ false → (i : ℕ) × (i < n) × (p i ≡ false)) → (i : ℕ) × (i < suc n) × (p i ≡ false)
+      go false f c g w = (n, omega arith, f)
+      go true f false g w = (let x = w g in (x .0, omega (arith, x .1), x .2))
+      go true f true g w = absurd (never-both (every n p && p n) (ap₂ _&&_ g f) e)
+
+  -- one that passes
+  pub some-hit : (n i : ℕ) → i < n → p i ≡ true → some n p ≡ true
+  unfolding some
+  some-hit zero i l f = absurd (omega arith)
+  some-hit (suc n) i l f = go (eq-or-lt-of-le (le-of-suc-le-suc l)) (λ k. some-hit n i k f)
+    where
+      go : (i ≡ n) ⊎ (i < n) → (i < n → some n p ≡ true) → (some n p || p n) ≡ true
+      go (inl q) w = ap (λ (b : Bool). some n p || b) (ap p (sym q) ∙ f) ∙ or-true (some n p)
+      go (inr k) w = ap (λ (b : Bool). b || p n) (w k)
+
+  pub some-none : (n : ℕ) → ((i : ℕ) → i < n → p i ≡ false) → some n p ≡ false
+  unfolding some
+  some-none zero h = refl
+  some-none (suc n) h = ap₂ _||_ (some-none n (λ i l. h i (omega arith))) (h n (omega arith))
+
+  -- one number more that fails, as a loop goes on
+  pub some-more : (n : ℕ) → some n p ≡ false → p n ≡ false → some (n + 1) p ≡ false
+  unfolding some
+  some-more n e f = ap (λ (k : ℕ). some k p) (add-one n) ∙ ap₂ _||_ e f
+
+  pub some-at : (n : ℕ) → some n p ≡ true → (i : ℕ) × (i < n) × (p i ≡ true)
+  unfolding some
+  some-at zero e = absurd (never-both false e refl)
+  some-at (suc n) e = go (p n) refl (some n p) refl (λ f. some-at n f)
+    where
+      go : (b : Bool) → p n ≡ b → (c : Bool) → some n p ≡ c → (some n p ≡ true → (i : ℕ) × (i < n) × (p i ≡ true)) → (i : ℕ) × (i < suc n) × (p i ≡ true)
+      go true f c g w = (n, omega arith, f)
+      go false f true g w = (let x = w g in (x .0, omega (arith, x .1), x .2))
+      go false f false g w = absurd (never-both (some n p || p n) e (ap₂ _||_ g f))
+
+-- tests that agree below n
+pub every-same : (p q : ℕ → Bool) (n : ℕ) → ((i : ℕ) → i < n → p i ≡ q i) → every n p ≡ every n q
+unfolding every
+every-same p q zero h = refl
+every-same p q (suc n) h = ap₂ _&&_ (every-same p q n (λ i l. h i (omega arith))) (h n (omega arith))
+
+pub some-same : (p q : ℕ → Bool) (n : ℕ) → ((i : ℕ) → i < n → p i ≡ q i) → some n p ≡ some n q
+unfolding some
+some-same p q zero h = refl
+some-same p q (suc n) h = ap₂ _||_ (some-same p q n (λ i l. h i (omega arith))) (h n (omega arith))
