@@ -71,7 +71,7 @@ chain-in n feeds head arrives c z i t l = go (any feeds i n)
     go (inl x) = rw (
       fed-one feeds i (λ p. sum t (arrives (head p))) n (x .0) (x .1) (x .2) (λ q m s. c .once (x .0) q i (x .1) m (x .2) s),
       c .down (x .0) i (x .1) l (x .2),
-      sum-none (arrives i) t (λ u. z (x .0) i u (x .1) l (x .2)),
+      sum-none (arrives i) t (λ u _. z (x .0) i u (x .1) l (x .2)),
       zero-add,
     )
     go (inr f) = rw (fed-none feeds i (λ p. sum t (arrives (head p))) n f, c .top i l f, add-zero)
