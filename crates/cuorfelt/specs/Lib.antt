@@ -1,0 +1,3 @@
+-- The edge for hosts written in C. Layout: the state in lent bytes. Edge: what each exported function gives, and what the lent bytes hold then.
+pub mod Layout
+pub mod Edge
