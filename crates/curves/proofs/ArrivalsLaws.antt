@@ -1,7 +1,7 @@
 -- Laws of the arrivals a(D): none in no time, one in the first tick, at most one more a tick, so never more than D.
--- ceiling-mono, ceiling-step, ceiling-one, ceiling-le: x / y rounded up. arrivals-none, arrivals-first, arrivals-mono, arrivals-step, arrivals-le.
+-- ceiling-mono, ceiling-step, ceiling-zero, ceiling-some, ceiling-le: x / y rounded up. arrivals-none, arrivals-some, arrivals-mono, arrivals-step, arrivals-first, arrivals-le.
 use mathlib.Core.Path.{_≡_, refl}
-use Prim.Native.Nat.{ℕ, zero, suc, _+_, _*_, _-_, _/_, _≤_, _<_, min}
+use Prim.Native.Nat.{ℕ, zero, suc, _+_, _-_, _/_, _≤_, _<_, min}
 use native.Mathlib.Nat.{le-div-iff-mul-le, div-lt-iff-lt-mul, div-mul-le-self, lt-div-mul-add, zero-add, div-eq-of-lt}
 use native.Mathlib.Omega.{arith}
 use Rattle.curves.specs.Arrivals.{ceiling, arrivals}

@@ -1,8 +1,8 @@
 -- Laws of the cost E(n): E(0) = 0, E(q × m + r) = q × E(m) + E(r), and E rises strictly where the entries do.
 -- entry-take, entry-none, entry-at, cost-used, used-under: the entries as the code reads them, out of eight places of which the first m are used.
-use mathlib.Core.Path.{_≡_, refl, subst, sym, ap, _∙_}
+use mathlib.Core.Path.{_≡_, refl, subst, ap}
 use mathlib.Core.Logic.{_⊎_, inl, inr}
-use mathlib.Core.List.{List, [], _∷_}
+use mathlib.Core.List.{List}
 use Prim.Native.Nat.{ℕ, zero, suc, _+_, _*_, _-_, _/_, _%_, _≤_, _<_}
 use native.Mathlib.Nat.{div-add-mod', mod-lt, eq-or-lt-of-le, zero-add, zero-mul, le-refl, le-of-lt, mul-le-mul-left}
 use native.Mathlib.Omega.{arith}

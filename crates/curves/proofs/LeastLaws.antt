@@ -2,13 +2,13 @@
 -- least: least-spec, least-found, least-by, least-is, least-within, least-same (of First and Nowhere, what a search finds).
 -- rest p h d, what is left of a search of 1 to h at d: rest-start, rest-end, rest-hit, rest-miss, rest-skip.
 -- lowest: lowest-least (it is `least` over indices), lowest-hit, lowest-first, lowest-some, lowest-none, lowest-le, lowest-same.
--- left p n i, what is left of a search of the slots below n at i: left-start, left-end, left-hit, left-miss.
+-- restSlots p n i, what is left of a search of the slots below n at i: slots-start, slots-end, slots-hit, slots-miss.
 -- largest: largest-le, largest-upper, largest-is, largest-more.
 use mathlib.Core.Path.{_≡_, refl, ap, ap₂, sym, _∙_, subst}
 use mathlib.Core.Logic.{_⊎_, inl, inr, _≢_}
 use mathlib.Core.Bool.{Bool, true, false, not}
 use Prim.Native.Nat.{ℕ, zero, suc, _+_, _-_, _≤_, _<_, max}
-use native.Mathlib.Nat.{eq-or-lt-of-le, le-refl, le-of-lt, le-antisymm}
+use native.Mathlib.Nat.{eq-or-lt-of-le, le-refl}
 use native.Mathlib.Numerals.{add-one}
 use native.Mathlib.Omega.{arith}
 use lib.Dec.{T, T-not, not-T}
@@ -181,28 +181,28 @@ lowest-same p q n h = lowest-least p n 0 ∙ least-same (byIndex p) (byIndex q) 
     agree (suc i) l k = h i (omega arith)
 
 -- what is left at slot i of a search of the slots below n
-abbrev pub left : (ℕ → Bool) → ℕ → ℕ → ℕ
-left p n i = lowestFrom p (n - i) i
+abbrev pub restSlots : (ℕ → Bool) → ℕ → ℕ → ℕ
+restSlots p n i = lowestFrom p (n - i) i
 
 module _ (p : ℕ → Bool) (n : ℕ) where
-  pub left-start : left p n 0 ≡ lowest p n
-  left-start = ap (λ (k : ℕ). lowestFrom p k 0) (omega arith)
+  pub slots-start : restSlots p n 0 ≡ lowest p n
+  slots-start = ap (λ (k : ℕ). lowestFrom p k 0) (omega arith)
 
-  pub left-end : (i : ℕ) → n ≤ i → left p n i ≡ 0
+  pub slots-end : (i : ℕ) → n ≤ i → restSlots p n i ≡ 0
   unfolding lowestFrom
-  left-end i l = let e : n - i ≡ 0 = omega arith in ap (λ (k : ℕ). lowestFrom p k i) e
+  slots-end i l = let e : n - i ≡ 0 = omega arith in ap (λ (k : ℕ). lowestFrom p k i) e
 
-  one-slot : (i : ℕ) → i < n → left p n i ≡ elim (p i) [ true ↦ suc i | false ↦ left p n (i + 1) ]
+  one-slot : (i : ℕ) → i < n → restSlots p n i ≡ elim (p i) [ true ↦ suc i | false ↦ restSlots p n (i + 1) ]
   unfolding lowestFrom
   one-slot i l =
       let e : n - i ≡ suc (n - (i + 1)) = omega arith in
       ap (λ (k : ℕ). lowestFrom p k i) e ∙ ap (λ (x : ℕ). elim (p i) [ true ↦ suc i | false ↦ lowestFrom p (n - (i + 1)) x ]) (sym (add-one i))
 
-  pub left-hit : (i : ℕ) → i < n → p i ≡ true → left p n i ≡ i + 1
-  left-hit i l t = one-slot i l ∙ ap (λ (b : Bool). elim b [ true ↦ suc i | false ↦ left p n (i + 1) ]) t ∙ sym (add-one i)
+  pub slots-hit : (i : ℕ) → i < n → p i ≡ true → restSlots p n i ≡ i + 1
+  slots-hit i l t = one-slot i l ∙ ap (λ (b : Bool). elim b [ true ↦ suc i | false ↦ restSlots p n (i + 1) ]) t ∙ sym (add-one i)
 
-  pub left-miss : (i : ℕ) → i < n → p i ≡ false → left p n i ≡ left p n (i + 1)
-  left-miss i l t = one-slot i l ∙ ap (λ (b : Bool). elim b [ true ↦ suc i | false ↦ left p n (i + 1) ]) t
+  pub slots-miss : (i : ℕ) → i < n → p i ≡ false → restSlots p n i ≡ restSlots p n (i + 1)
+  slots-miss i l t = one-slot i l ∙ ap (λ (b : Bool). elim b [ true ↦ suc i | false ↦ restSlots p n (i + 1) ]) t
 
 module _ (f : ℕ → ℕ) where
   -- each is at most the largest
@@ -221,18 +221,13 @@ module _ (f : ℕ → ℕ) where
   pub largest-is : (n : ℕ) → 0 < n → (i : ℕ) × (i < n) × (f i ≡ largest n f)
   unfolding largest
   largest-is zero l = absurd (omega arith)
-  largest-is (suc n) l = go (le-or-lt (largest n f) (f n)) (λ k. largest-is n k)
+  largest-is (suc zero) l = (0, omega arith, omega arith)
+  largest-is (suc (suc n)) l = go (le-or-lt (largest (suc n) f) (f (suc n))) (largest-is (suc n) (omega arith))
     where
-      go : (largest n f ≤ f n) ⊎ (f n < largest n f) → (0 < n → (i : ℕ) × (i < n) × (f i ≡ largest n f)) → (i : ℕ) × (i < suc n) × (f i ≡ max (largest n f) (f n))
-      go (inl k) w = (n, omega arith, omega arith)
-      go (inr k) w = some n refl w
-        where
-          some : (m : ℕ) → n ≡ m → (0 < m → (i : ℕ) × (i < n) × (f i ≡ largest n f)) → (i : ℕ) × (i < suc n) × (f i ≡ max (largest n f) (f n))
-          some zero e v = absurd (none e)
-            where
-              none : n ≡ 0 → ⊥
-              none z = let y : largest n f ≡ largest 0 f = ap (λ (x : ℕ). largest x f) z in omega arith
-          some (suc m) e v = let s = v (omega arith) in (s .0, omega (arith, s .1), omega (arith, s .2))
+      go : (largest (suc n) f ≤ f (suc n)) ⊎ (f (suc n) < largest (suc n) f) → (i : ℕ) × (i < suc n) × (f i ≡ largest (suc n) f)
+          → (i : ℕ) × (i < suc (suc n)) × (f i ≡ max (largest (suc n) f) (f (suc n)))
+      go (inl k) w = (suc n, omega arith, omega arith)
+      go (inr k) w = (w .0, omega (arith, w .1), omega (arith, w .2))
 
   -- one more of them, as a loop adds it
   pub largest-more : (n : ℕ) → max (largest n f) (f n) ≡ largest (n + 1) f
