@@ -1,4 +1,4 @@
--- A list with other elements from place k on.
+-- A list with other elements from place k on (document 01: 'touches no place beyond n', 'leaves the lent bytes untouched').
 use Prim.Native.Nat.{ℕ, _+_}
 use mathlib.Core.List.{List, _++_}
 use lib.ListN.{length, take, drop}

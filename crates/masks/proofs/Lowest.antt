@@ -1,12 +1,12 @@
 -- The first slot of a mask: `u16::trailing_zeros` is firstOf, and what firstFrom n i m is: the least slot that m has among i, .., i + n - 1,
 -- or i + n. Assumes nothing.
-use mathlib.Core.Path.{_≡_, refl, sym, ap, ap₂, _∙_}
+use mathlib.Core.Path.{_≡_, refl, sym, ap, _∙_}
 use mathlib.Core.Bool.{Bool, true, false}
 use mathlib.Core.Logic.{⊎-elim}
-use Prim.Native.Nat.{ℕ, zero, suc, _+_, _/_, _%_, _^_, _≤_, _<_}
+use Prim.Native.Nat.{ℕ, zero, suc, _+_, _/_, _%_, _≤_, _<_}
 use native.Mathlib.Nat.{eq-or-lt-of-le, add-zero}
 use native.Mathlib.Omega.{arith}
-use lib.Dec.{eqb, lit<}
+use lib.Dec.{eqb}
 use lib.Count.{trailingZeros, under}
 use Rattle.masks.specs.Mask.{has, firstFrom, firstOf}
 use Rattle.masks.proofs.Slots.{digit, low-lt, has-low, has-half, mask-none, has-zero}

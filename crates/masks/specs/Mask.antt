@@ -1,6 +1,6 @@
 -- A mask as a number: bit i is m / 2 ^ i % 2, and stands for the callback in slot i, callback i + 1 (document 01, 'One tick of the machine').
 -- has, withBit, withoutBit: one slot. both, either, except: two masks. countOf, firstFrom, firstOf: a search. gather: the slots that pass a test.
-use Prim.Native.Nat.{ℕ, zero, suc, _+_, _-_, _*_, _/_, _%_, _^_}
+use Prim.Native.Nat.{ℕ, zero, suc, _+_, _-_, _/_, _%_, _^_}
 use mathlib.Core.Bool.{Bool, true, false, cond}
 use lib.Dec.{eqb}
 use lib.Bits.{bitAnd, bitOr}

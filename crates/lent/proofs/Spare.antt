@@ -1,0 +1,113 @@
+-- Whether a run of bytes is zero goes by each of them, so by what is written and what is kept. Assumes nothing.
+use mathlib.Core.Path.{_≡_, refl, sym, ap, ap₂, _∙_}
+use mathlib.Core.Bool.{Bool, true, false, _&&_}
+use mathlib.Core.Logic.{⊎-elim}
+use mathlib.Core.List.{List}
+use Prim.Native.Nat.{ℕ, zero, suc, _≤_, _<_, _+_, _-_}
+use native.Mathlib.Nat.{eq-or-lt-of-le, le-of-suc-le-suc, zero-add}
+use native.Mathlib.Omega.{arith}
+use lib.ListN.{length, getD, take, drop, replicate, length-replicate, length-drop, getD-replicate}
+use lib.Seq.{ext-getD, length-take-le, getD-take, getD-drop}
+use lib.Dec.{eqb}
+use borrow.Author.Tests.{eq-eqb, eqb-true}
+use Rattle.lent.specs.Over.{over}
+use Rattle.lent.specs.Bytes.{zeros}
+use Rattle.lent.proofs.Inside.{over-before, over-inside, over-after}
+
+first-of : (x y : Bool) → (x && y) ≡ true → x ≡ true
+first-of true y e = refl
+first-of false y e = e
+
+second-of : (x y : Bool) → (x && y) ≡ true → y ≡ true
+second-of true y e = e
+second-of false y e = absurd (let z : _≡_ {A = ℕ} 0 1 = cc in omega arith)
+
+and-false : (x : Bool) → (x && false) ≡ false
+and-false true = refl
+and-false false = refl
+
+-- ---- a run and its bytes
+
+-- each byte of a run of zeros
+pub zeros-at : (b : List ℕ) (k n i : ℕ) → zeros b k n ≡ true → i < n → getD b (k + i) 0 ≡ 0
+unfolding zeros
+zeros-at b k zero i e l = absurd (omega arith)
+zeros-at b k (suc n) i e l =
+    ⊎-elim
+    (λ (q : i ≡ n). ap (λ (j : ℕ). getD b (k + j) 0) q ∙ eqb-true (getD b (k + n) 0) 0 (second-of (zeros b k n) (eqb (getD b (k + n) 0) 0) e))
+    (λ (q : i < n). zeros-at b k n i (first-of (zeros b k n) (eqb (getD b (k + n) 0) 0) e) q)
+    (eq-or-lt-of-le (le-of-suc-le-suc l))
+
+-- a run of which each byte is zero
+pub zeros-all : (b : List ℕ) (k n : ℕ) → ((i : ℕ) → i < n → getD b (k + i) 0 ≡ 0) → zeros b k n ≡ true
+unfolding zeros
+zeros-all b k zero each = refl
+zeros-all b k (suc n) each =
+    ap₂ _&&_ (zeros-all b k n (λ i l. each i (omega arith))) (eq-eqb (getD b (k + n) 0) 0 (each n (omega arith)))
+
+-- a byte that is not zero
+pub zeros-miss : (b : List ℕ) (k n i : ℕ) → i < n → (getD b (k + i) 0 ≡ 0 → ⊥) → zeros b k n ≡ false
+zeros-miss b k n i l ne = go (zeros b k n) refl
+  where
+    go : (x : Bool) → zeros b k n ≡ x → x ≡ false
+    go true e = absurd (ne (zeros-at b k n i e l))
+    go false e = refl
+
+-- ---- the search for a byte that is not zero, among those from k up to but not including a place
+
+pub zeros-none : (b : List ℕ) (k : ℕ) → zeros b k (k - k) ≡ true
+zeros-none b k = zeros-all b k (k - k) (λ i l. absurd (omega arith))
+
+-- one byte more
+pub zeros-more : (b : List ℕ) (k i : ℕ) → k ≤ i → zeros b k (i - k) ≡ true → getD b i 0 ≡ 0 → zeros b k (i + 1 - k) ≡ true
+unfolding zeros
+zeros-more b k i h e z =
+    let at : k + (i - k) ≡ i = omega arith in
+    let more : i + 1 - k ≡ suc (i - k) = omega arith in
+    ap (zeros b k) more ∙ ap₂ _&&_ e (eq-eqb (getD b (k + (i - k)) 0) 0 (ap (λ (j : ℕ). getD b j 0) at ∙ z))
+
+-- one that is not zero
+pub zeros-stop : (b : List ℕ) (k i to : ℕ) → k ≤ i → i < to → (getD b i 0 ≡ 0 → ⊥) → zeros b k (to - k) ≡ false
+zeros-stop b k i to h l ne =
+    let at : i ≡ k + (i - k) = omega arith in
+    zeros-miss b k (to - k) (i - k) (omega arith) (λ z. ne (ap (λ (j : ℕ). getD b j 0) at ∙ z))
+
+-- all of them passed
+pub zeros-less : (b : List ℕ) (k n m : ℕ) → n ≤ m → zeros b k m ≡ true → zeros b k n ≡ true
+zeros-less b k n m h e = zeros-all b k n (λ i l. zeros-at b k m i e (omega arith))
+
+-- ---- runs of two lists
+
+pub zeros-same : (a b : List ℕ) (j k n : ℕ) → ((i : ℕ) → i < n → getD a (j + i) 0 ≡ getD b (k + i) 0) → zeros a j n ≡ zeros b k n
+unfolding zeros
+zeros-same a b j k zero same = refl
+zeros-same a b j k (suc n) same =
+    ap₂ (λ (x : Bool) (y : ℕ). x && eqb y 0) (zeros-same a b j k n (λ i l. same i (omega arith))) (same n (omega arith))
+
+-- a run of zeros, as a list
+pub zeros-part : (b : List ℕ) (k n : ℕ) → k + n ≤ length b → zeros b k n ≡ true → take n (drop k b) ≡ replicate n 0
+zeros-part b k n h e =
+    let l : length (take n (drop k b)) ≡ n = length-take-le n (drop k b) (simp length-drop (omega arith)) in
+    ext-getD 0 (take n (drop k b)) (replicate n 0) (l ∙ sym (length-replicate n 0))
+    (λ i q.
+    let r : i < n = omega arith in
+    getD-take n (drop k b) i 0 r ∙ getD-drop k b i 0 ∙ zeros-at b k n i e r ∙ sym (getD-replicate n i 0 0 r))
+
+-- ---- after a write
+
+module _ (b : List ℕ) (k : ℕ) (vs : List ℕ) (fits : k + length vs ≤ length b) where
+  pub zeros-before : (j n : ℕ) → j + n ≤ k → zeros (over b k vs) j n ≡ zeros b j n
+  zeros-before j n h = zeros-same (over b k vs) b j j n (λ i l. over-before b k vs fits (j + i) (omega arith))
+
+  pub zeros-inside : (n : ℕ) → n ≤ length vs → zeros (over b k vs) k n ≡ zeros vs 0 n
+  zeros-inside n h = zeros-same (over b k vs) vs k 0 n (λ i l. over-inside b k vs fits i (omega arith) ∙ ap (λ (j : ℕ). getD vs j 0) (sym (zero-add i)))
+
+  pub zeros-after : (j n : ℕ) → k + length vs ≤ j → zeros (over b k vs) j n ≡ zeros b j n
+  zeros-after j n h = zeros-same (over b k vs) b j j n (λ i l. over-after b k vs fits (j + i) (omega arith))
+
+-- what was zeroed
+pub zeros-zeroed : (b : List ℕ) (k n : ℕ) → k + n ≤ length b → zeros (over b k (replicate n 0)) k n ≡ true
+zeros-zeroed b k n h =
+    let e : length {A = ℕ} (replicate n 0) ≡ n = length-replicate n 0 in
+    zeros-all (over b k (replicate n 0)) k n
+    (λ i l. over-inside b k (replicate n 0) (omega arith) i (omega arith) ∙ getD-replicate n i 0 0 l)
