@@ -1,0 +1,225 @@
+//! Histories within the curves that press against them, and others.
+
+use crate::history::History;
+use crate::machine::{bit, start, Answer, State, Tick};
+use crate::random::Random;
+use crate::sheet::{arrivals, cost, supply};
+use crate::table::{encode, Table, LARGEST, MOST_CALLBACKS};
+
+/// How hard a history presses. With everything at a hundred percent each
+/// arrival, unsupplied tick and unit of cost is taken as soon as the curves
+/// permit it.
+#[derive(Clone, Debug)]
+pub struct Style {
+    /// By place of the callback: the tick before which it does not arrive.
+    pub phases: Vec<u64>,
+    /// Percent of the permitted arrivals that are taken.
+    pub arrive: u64,
+    /// The tick before which every tick is supplied.
+    pub starve_from: u64,
+    /// Percent of the permitted unsupplied ticks that are taken.
+    pub starve: u64,
+    /// Percent of the instances that cost as much as permitted.
+    pub costly: u64,
+    /// Spans of ticks with and without arrivals, in turn.
+    pub busy: u64,
+    pub quiet: u64,
+}
+
+impl Style {
+    /// Everything at once from tick 0.
+    pub fn greedy(table: &Table) -> Style {
+        Style {
+            phases: vec![0; table.count()],
+            arrive: 100,
+            starve_from: 0,
+            starve: 100,
+            costly: 100,
+            busy: 1,
+            quiet: 0,
+        }
+    }
+
+    /// Greedy, each head and the supply with a phase of at most `most`.
+    pub fn phased(random: &mut Random, table: &Table, most: u64) -> Style {
+        let mut style = Style::greedy(table);
+        for phase in &mut style.phases {
+            *phase = random.range(0, most);
+        }
+        style.starve_from = random.range(0, most);
+        style
+    }
+
+    /// Phased, with rests in which what is permitted gathers again.
+    pub fn resting(random: &mut Random, table: &Table, window: u64) -> Style {
+        let mut style = Style::phased(random, table, 3);
+        style.busy = random.range(1, 2 * window);
+        style.quiet = random.range(1, 3 * window);
+        style
+    }
+
+    pub fn loose(random: &mut Random, table: &Table, window: u64) -> Style {
+        let mut style = Style::phased(random, table, window);
+        style.arrive = *random.pick(&[10, 50, 90, 100]);
+        style.starve = *random.pick(&[10, 50, 90, 100]);
+        style.costly = *random.pick(&[0, 50, 90, 100]);
+        style
+    }
+}
+
+/// A history in the making, with what the curves need to know of it.
+struct Driver<'a> {
+    table: &'a Table,
+    state: State,
+    history: History,
+    /// Supplied ticks among the first 0, 1, 2 and so on.
+    supplied: Vec<u64>,
+    /// s(0), s(1), s(2) and so on.
+    least: Vec<u64>,
+    /// By place of the callback: arrival times, and costs of started instances.
+    arrived: Vec<Vec<u64>>,
+    costs: Vec<Vec<u64>>,
+}
+
+/// A history within the curves, of `length` ticks.
+pub fn within(random: &mut Random, table: &Table, style: &Style, length: u64) -> History {
+    let mut driver = Driver {
+        table,
+        state: start(&encode(table)).state,
+        history: History::default(),
+        supplied: vec![0],
+        least: (0..=length)
+            .map(|d| supply(table.budget, table.period, d))
+            .collect(),
+        arrived: vec![Vec::new(); table.count()],
+        costs: vec![Vec::new(); table.count()],
+    };
+    for time in 0..length {
+        let mask = driver.mask(random, style, time);
+        let starved =
+            time >= style.starve_from && driver.may_starve() && random.chance(style.starve);
+        driver.take(random, style, mask, !starved);
+    }
+    driver.history
+}
+
+impl Driver<'_> {
+    /// The arrivals of this tick.
+    fn mask(&mut self, random: &mut Random, style: &Style, time: u64) -> u16 {
+        let mut mask = 0;
+        if time % (style.busy + style.quiet) >= style.busy {
+            return mask;
+        }
+        for index in (1..=self.table.count()).filter(|&i| self.table.is_head(i)) {
+            let due = time >= style.phases[index - 1] && self.may_arrive(index, time);
+            if due && random.chance(style.arrive) {
+                mask |= bit(index);
+                self.arrived[index - 1].push(time);
+            }
+        }
+        mask
+    }
+
+    /// Whether every window that ends with this tick could hold one more.
+    fn may_arrive(&self, head: usize, time: u64) -> bool {
+        let earlier = &self.arrived[head - 1];
+        let count = earlier.len() as u64;
+        earlier.iter().enumerate().all(|(place, &at)| {
+            count - (place as u64) < arrivals(self.table.callback(head), time - at + 1)
+        })
+    }
+
+    /// Whether every window that ends with this tick would have its supply
+    /// without it.
+    fn may_starve(&self) -> bool {
+        let ticks = self.supplied.len() - 1;
+        let total = self.supplied[ticks];
+        (0..=ticks).all(|from| total - self.supplied[from] >= self.least[ticks + 1 - from])
+    }
+
+    /// Plays one tick; its cost is what the starting instance is given.
+    fn take(&mut self, random: &mut Random, style: &Style, mask: u16, supplied: bool) {
+        let probe = Tick {
+            mask,
+            supplied,
+            cost: LARGEST,
+        };
+        let reply = self.state.clone().tick(probe).reply;
+        let mut cost = *random.pick(&[1, LARGEST]);
+        if let (true, Ok(Answer::Ran { callback, .. } | Answer::Finished { callback, .. })) =
+            (reply.started, reply.outcome)
+        {
+            let most = self.largest_cost(callback);
+            cost = if random.chance(style.costly) {
+                most
+            } else {
+                random.range(1, most)
+            };
+            self.costs[callback - 1].push(cost);
+        }
+        let tick = Tick {
+            mask,
+            supplied,
+            cost,
+        };
+        let step = self.state.clone().tick(tick);
+        self.state = step.state;
+        self.history.ticks.push(tick);
+        self.history.replies.push(step.reply);
+        self.supplied
+            .push(self.supplied[self.supplied.len() - 1] + u64::from(supplied));
+    }
+
+    /// The largest cost with which every run of instances that ends with this
+    /// one still costs at most E.
+    fn largest_cost(&self, callback: usize) -> u64 {
+        let entries = &self.table.callback(callback).entries;
+        let mut most = entries[0];
+        let mut sum = 0;
+        for (place, earlier) in self.costs[callback - 1].iter().rev().enumerate() {
+            sum += earlier;
+            most = most.min(cost(entries, place as u64 + 2) - sum);
+        }
+        most
+    }
+}
+
+/// Ticks that heed no curve: floods, stray bits, costs out of range.
+pub fn outside(random: &mut Random, table: &Table, length: u64) -> Vec<Tick> {
+    let flood = *random.pick(&[30, 90, 100]);
+    let starve = *random.pick(&[0, 10, 60]);
+    let fault = *random.pick(&[0, 1, 20]);
+    let dear = *random.pick(&[1, 2, 5, LARGEST]);
+    let heads: Vec<usize> = (1..=table.count()).filter(|&i| table.is_head(i)).collect();
+    let some: Vec<usize> = heads
+        .iter()
+        .copied()
+        .filter(|_| random.chance(70))
+        .collect();
+    let flooded = if some.is_empty() { heads } else { some };
+    let mut ticks = Vec::new();
+    for _ in 0..length {
+        let mut tick = Tick {
+            mask: 0,
+            supplied: !random.chance(starve),
+            cost: 1,
+        };
+        for &head in &flooded {
+            tick.mask |= if random.chance(flood) { bit(head) } else { 0 };
+        }
+        tick.cost = random.range(1, dear);
+        if random.chance(fault) {
+            spoil(random, &mut tick);
+        }
+        ticks.push(tick);
+    }
+    ticks
+}
+
+fn spoil(random: &mut Random, tick: &mut Tick) {
+    if random.chance(50) {
+        tick.mask |= bit(random.range(1, MOST_CALLBACKS as u64) as usize);
+    } else {
+        tick.cost = *random.pick(&[0, LARGEST, LARGEST + 1, 65_535]);
+    }
+}

@@ -1,0 +1,72 @@
+//! States written at will, sound or with one fault.
+
+use super::damage::damaged;
+use crate::machine::{bit, start, State, MOST_TICKS};
+use crate::random::Random;
+use crate::table::{encode, Kind, Table, LARGEST, MOST_CALLBACKS};
+use crate::text::Change;
+
+/// A state of this table that a tick does not refuse with 29.
+pub fn sound(random: &mut Random, table: &Table) -> State {
+    let mut state = start(&encode(table)).state;
+    state.ticks = *random.pick(&[0, 1, 10, 300, MOST_TICKS - 1, MOST_TICKS]);
+    let waits: Vec<usize> = (1..=table.count()).filter(|_| random.chance(50)).collect();
+    for index in 1..=table.count() {
+        let most = state.ticks;
+        state.finished[index - 1] = *random.pick(&[0, most / 2, most]);
+        if waits.contains(&index) {
+            state.waiting[index - 1] = *random.pick(&[1, 2, 254, 255, 255]);
+        }
+    }
+    let timer = |index: usize| table.callback(index).kind == Kind::Timer;
+    let caching = *random.pick(&[0, 50, 100]);
+    for &index in &waits {
+        if !timer(index) && random.chance(caching) {
+            state.cache |= bit(index);
+        }
+    }
+    let able = |&index: &usize| timer(index) || state.cached(index);
+    let able: Vec<usize> = waits.iter().copied().filter(able).collect();
+    if !able.is_empty() && random.chance(60) {
+        state.running = *random.pick(&able);
+        state.units = *random.pick(&[1, 1, 2, LARGEST]);
+    }
+    state
+}
+
+/// Puts one fault into a state; now and then it is none.
+pub fn spoil(random: &mut Random, table: &Table, state: &mut State) {
+    let place = random.range(0, table.count() as u64 - 1) as usize;
+    let beyond = random.range(table.count() as u64, MOST_CALLBACKS as u64) as usize;
+    let last = beyond.min(MOST_CALLBACKS - 1);
+    match random.range(0, 11) {
+        0 => state.table = damaged(random),
+        1 => state.running = beyond + 1,
+        2 => state.cache |= 1 << last,
+        3 => state.waiting[last] = 1,
+        4 => state.finished[last] = 1,
+        5 => state.waiting[place] = 256,
+        6 => state.finished[place] = state.ticks + 1,
+        7 => state.waiting[place] = 0,
+        8 => state.cache ^= 1 << place,
+        9 => state.running = place + 1,
+        10 => state.running = 0,
+        _ => state.units = *random.pick(&[0, 1, LARGEST + 1]),
+    }
+}
+
+/// The writes that make any state into this one.
+pub fn changes(state: &State) -> Vec<Change> {
+    let mut changes = vec![
+        Change::Table(state.table.clone()),
+        Change::Cache(state.cache),
+        Change::Running(state.running),
+        Change::Units(state.units),
+        Change::Ticks(state.ticks),
+    ];
+    for index in 1..=MOST_CALLBACKS {
+        changes.push(Change::Waiting(index, state.waiting(index)));
+        changes.push(Change::Finished(index, state.finished(index)));
+    }
+    changes
+}

@@ -1,0 +1,192 @@
+//! The text of tables, histories and replies.
+
+use crate::machine::{Answer, Reply, Start, State, Tick};
+use crate::table::Refusal;
+
+/// One line of a history: a tick, or a change of the state before the next.
+#[derive(Clone, Debug, PartialEq, Eq)]
+pub enum Line {
+    Tick(Tick),
+    Set(Change),
+}
+
+/// A write into one field of the state.
+#[derive(Clone, Debug, PartialEq, Eq)]
+pub enum Change {
+    Table(Vec<u8>),
+    Waiting(usize, u64),
+    Finished(usize, u64),
+    Cache(u16),
+    Running(usize),
+    Units(u64),
+    Ticks(u64),
+}
+
+impl Change {
+    pub fn apply(&self, state: &mut State) {
+        match self {
+            Change::Table(bytes) => state.table = bytes.clone(),
+            Change::Waiting(index, value) => state.waiting[index - 1] = *value,
+            Change::Finished(index, value) => state.finished[index - 1] = *value,
+            Change::Cache(mask) => state.cache = *mask,
+            Change::Running(index) => state.running = *index,
+            Change::Units(value) => state.units = *value,
+            Change::Ticks(value) => state.ticks = *value,
+        }
+    }
+}
+
+/// A history's text: the table's bytes in hex, then one line per tick.
+#[derive(Clone, Debug, PartialEq, Eq)]
+pub struct Script {
+    pub table: Vec<u8>,
+    pub lines: Vec<Line>,
+}
+
+pub fn hex(bytes: &[u8]) -> String {
+    bytes.iter().map(|byte| format!("{byte:02x}")).collect()
+}
+
+pub fn from_hex(text: &str) -> Result<Vec<u8>, String> {
+    let text = text.trim();
+    if !text.is_ascii() || !text.len().is_multiple_of(2) {
+        return Err(format!("not hex: {text}"));
+    }
+    (0..text.len() / 2)
+        .map(|place| {
+            let pair = &text[2 * place..2 * place + 2];
+            u8::from_str_radix(pair, 16).map_err(|_| format!("not hex: {pair}"))
+        })
+        .collect()
+}
+
+fn number(word: &str) -> Result<u64, String> {
+    word.parse().map_err(|_| format!("not a number: {word}"))
+}
+
+/// A callback's index, 1 to 16.
+fn place(word: &str) -> Result<usize, String> {
+    match number(word)? {
+        index @ 1..=16 => Ok(index as usize),
+        other => Err(format!("not 1 to 16: {other}")),
+    }
+}
+
+fn mask(word: &str) -> Result<u16, String> {
+    u16::try_from(number(word)?).map_err(|_| format!("not sixteen bits: {word}"))
+}
+
+fn supplied(word: &str) -> Result<bool, String> {
+    match word {
+        "0" => Ok(false),
+        "1" => Ok(true),
+        _ => Err(format!("not 0 or 1: {word}")),
+    }
+}
+
+fn change(words: &[&str]) -> Result<Change, String> {
+    Ok(match words {
+        ["table", bytes] => Change::Table(from_hex(bytes)?),
+        ["table"] => Change::Table(Vec::new()),
+        ["waiting", index, value] => Change::Waiting(place(index)?, number(value)?),
+        ["finished", index, value] => Change::Finished(place(index)?, number(value)?),
+        ["cache", value] => Change::Cache(mask(value)?),
+        ["running", value] => Change::Running(number(value)? as usize),
+        ["units", value] => Change::Units(number(value)?),
+        ["ticks", value] => Change::Ticks(number(value)?),
+        _ => return Err(format!("no such change: {}", words.join(" "))),
+    })
+}
+
+fn line(text: &str) -> Result<Line, String> {
+    let words: Vec<&str> = text.split_whitespace().collect();
+    match words[..] {
+        ["set", ref rest @ ..] => Ok(Line::Set(change(rest)?)),
+        [arrivals, supply, cost] => Ok(Line::Tick(Tick {
+            mask: mask(arrivals)?,
+            supplied: supplied(supply)?,
+            cost: number(cost)?,
+        })),
+        _ => Err(format!("not a line of a history: {text}")),
+    }
+}
+
+/// Empty lines after the first, and lines that begin with #, say nothing.
+pub fn script(text: &str) -> Result<Script, String> {
+    let mut rows = text.lines();
+    let table = from_hex(rows.next().unwrap_or(""))?;
+    let said = rows.filter(|row| !row.trim().is_empty() && !row.starts_with('#'));
+    Ok(Script {
+        table,
+        lines: said.map(line).collect::<Result<_, _>>()?,
+    })
+}
+
+pub fn line_text(line: &Line) -> String {
+    match line {
+        Line::Tick(tick) => format!("{} {} {}", tick.mask, u8::from(tick.supplied), tick.cost),
+        Line::Set(Change::Table(bytes)) => format!("set table {}", hex(bytes)),
+        Line::Set(Change::Waiting(index, value)) => format!("set waiting {index} {value}"),
+        Line::Set(Change::Finished(index, value)) => format!("set finished {index} {value}"),
+        Line::Set(Change::Cache(mask)) => format!("set cache {mask}"),
+        Line::Set(Change::Running(index)) => format!("set running {index}"),
+        Line::Set(Change::Units(value)) => format!("set units {value}"),
+        Line::Set(Change::Ticks(value)) => format!("set ticks {value}"),
+    }
+}
+
+pub fn script_text(script: &Script) -> String {
+    let rows = script.lines.iter().map(|line| line_text(line) + "\n");
+    hex(&script.table) + "\n" + &rows.collect::<String>()
+}
+
+/// "`refused`, number, index, parted by single spaces"
+pub fn refusal_text(refusal: &Refusal) -> String {
+    format!("refused {} {}", refusal.number, refusal.index)
+}
+
+pub fn start_text(start: &Start) -> String {
+    match &start.refusal {
+        Some(refusal) => format!("start {}", refusal_text(refusal)),
+        None => "start accepted".to_string(),
+    }
+}
+
+pub fn reply_text(time: usize, reply: &Reply) -> String {
+    let (word, callback, instance) = match reply.outcome {
+        Err(refusal) => return format!("{time} {}", refusal_text(&refusal)),
+        Ok(Answer::NoSupply) => ("nosupply", 0, 0),
+        Ok(Answer::Idle) => ("idle", 0, 0),
+        Ok(Answer::Ran { callback, instance }) => ("ran", callback, instance),
+        Ok(Answer::Finished { callback, instance }) => ("finished", callback, instance),
+    };
+    let beside = (
+        u8::from(reply.started),
+        u8::from(reply.polled),
+        reply.gathered,
+    );
+    format!(
+        "{time} {word} {callback} {instance} {} {} {}",
+        beside.0, beside.1, beside.2
+    )
+}
+
+fn joined(values: &[u64]) -> String {
+    values
+        .iter()
+        .map(u64::to_string)
+        .collect::<Vec<_>>()
+        .join(" ")
+}
+
+pub fn state_text(state: &State) -> String {
+    format!(
+        "state {} {} {} {} {} {}",
+        state.ticks,
+        state.running,
+        state.units,
+        state.cache,
+        joined(&state.waiting),
+        joined(&state.finished)
+    )
+}

@@ -1,0 +1,90 @@
+//! Small tables for the tests.
+#![allow(dead_code)]
+
+use sim::machine::Tick;
+use sim::sheet::analyse;
+use sim::table::{encode, Callback, Kind, Refusal, Table};
+
+/// A lone callback.
+pub fn lone(kind: Kind, period: u64, jitter: u64, distance: u64, entries: &[u64]) -> Callback {
+    Callback {
+        kind,
+        next: 0,
+        entries: entries.to_vec(),
+        period,
+        jitter,
+        distance,
+    }
+}
+
+/// A subscription with T = d.
+pub fn subscription(period: u64, entries: &[u64]) -> Callback {
+    lone(Kind::Subscription, period, 0, period, entries)
+}
+
+pub fn timer(period: u64, entries: &[u64]) -> Callback {
+    lone(Kind::Timer, period, 0, period, entries)
+}
+
+pub fn follower(kind: Kind, entries: &[u64]) -> Callback {
+    lone(kind, 0, 0, 0, entries)
+}
+
+pub fn supplied(budget: u64, period: u64, callbacks: Vec<Callback>) -> Table {
+    Table {
+        budget,
+        period,
+        horizon: 0,
+        callbacks,
+    }
+}
+
+/// "Full supply means Q = P = 1."
+pub fn full(callbacks: Vec<Callback>) -> Table {
+    supplied(1, 1, callbacks)
+}
+
+/// Timer 1 activates subscription 2, which activates client 3.
+pub fn chain() -> Table {
+    let mut callbacks = vec![
+        timer(20, &[1]),
+        follower(Kind::Subscription, &[2]),
+        follower(Kind::Client, &[3]),
+    ];
+    callbacks[0].next = 2;
+    callbacks[1].next = 3;
+    full(callbacks)
+}
+
+/// Window and bounds 1 to n; the places beyond n are seen to be kept.
+pub fn sheet(table: &Table) -> Result<(u64, Vec<u64>), Refusal> {
+    let mut row = [7_777; 20];
+    let result = analyse(&encode(table), &mut row);
+    let kept = if result.is_ok() { table.count() } else { 0 };
+    assert!(row[kept..].iter().all(|&place| place == 7_777));
+    Ok((
+        result?,
+        row[..kept].iter().map(|&bound| bound.into()).collect(),
+    ))
+}
+
+pub fn refusal(number: u8, index: u8) -> Refusal {
+    Refusal { number, index }
+}
+
+/// A supplied tick.
+pub fn tick(mask: u16, cost: u64) -> Tick {
+    Tick {
+        mask,
+        supplied: true,
+        cost,
+    }
+}
+
+pub fn unsupplied(mask: u16, cost: u64) -> Tick {
+    Tick {
+        mask,
+        supplied: false,
+        cost,
+    }
+}

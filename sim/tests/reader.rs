@@ -1,0 +1,235 @@
+//! The reader's refusals, their order and both ends of the ranges.
+
+mod common;
+use common::*;
+use sim::generate::damage::{refused_with, NUMBERS};
+use sim::generate::tables::{any_shape, table};
+use sim::random::Random;
+use sim::sheet::analyse;
+use sim::table::{encode, read, Kind, Refusal, Table};
+
+/// The refusal of `chain()` with one byte written, if any.
+fn written(at: usize, value: u8) -> Option<Refusal> {
+    let mut bytes = encode(&chain());
+    bytes[at] = value;
+    read(&bytes).err()
+}
+
+fn written_word(at: usize, value: u16) -> Option<Refusal> {
+    let mut bytes = encode(&chain());
+    bytes[at..at + 2].copy_from_slice(&value.to_le_bytes());
+    read(&bytes).err()
+}
+
+fn refused(number: u8, index: u8) -> Option<Refusal> {
+    Some(refusal(number, index))
+}
+
+/// Where the record of a callback begins.
+fn record(index: usize) -> usize {
+    16 + 32 * (index - 1)
+}
+
+#[test]
+fn reads_what_it_encodes() {
+    let mut random = Random::new(1);
+    for _ in 0..2_000 {
+        let shape = any_shape(&mut random);
+        let table = table(&mut random, shape);
+        assert_eq!(read(&encode(&table)), Ok(table));
+    }
+}
+
+#[test]
+fn layout() {
+    let mut table = supplied(
+        2,
+        772,
+        vec![lone(Kind::Service, 1_286, 1_800, 770, &[1, 514])],
+    );
+    table.horizon = 1_541;
+    let mut expected = vec![1, 1, 2, 0, 4, 3, 5, 6, 0, 0, 0, 0, 0, 0, 0, 0];
+    expected.extend([3, 0, 2, 0, 6, 5, 8, 7, 2, 3, 0, 0, 1, 0, 2, 2]);
+    expected.extend([0; 16]);
+    assert_eq!(encode(&table), expected);
+}
+
+#[test]
+fn refusals_1_to_4() {
+    let bytes = encode(&chain());
+    assert_eq!(read(&[]).err(), refused(1, 0));
+    assert_eq!(read(&bytes[..15]).err(), refused(1, 0));
+    assert_eq!(read(&[9; 15]).err(), refused(1, 0));
+    assert_eq!(read(&bytes[..16]).err(), refused(4, 0));
+    assert_eq!(read(&bytes[..111]).err(), refused(4, 0));
+    assert_eq!(read(&[&bytes[..], &[0]].concat()).err(), refused(4, 0));
+    for edition in [0, 2, 255] {
+        assert_eq!(written(0, edition), refused(2, 0));
+    }
+    for count in [0, 17, 255] {
+        assert_eq!(written(1, count), refused(3, 0));
+    }
+    for count in [1, 2, 4, 16] {
+        assert_eq!(written(1, count), refused(4, 0));
+    }
+}
+
+#[test]
+fn one_and_sixteen_callbacks() {
+    for count in [1, 16] {
+        assert!(read(&encode(&full(vec![timer(9, &[1]); count]))).is_ok());
+    }
+}
+
+#[test]
+fn refusals_5_to_7() {
+    for at in 8..16 {
+        assert_eq!(written(at, 1), refused(5, 0));
+    }
+    let supply = |budget, period| read(&encode(&supplied(budget, period, chain().callbacks))).err();
+    for (budget, period) in [
+        (0, 1),
+        (0, 0),
+        (2, 1),
+        (1, 60_001),
+        (65_535, 65_535),
+        (1, 0),
+    ] {
+        assert_eq!(supply(budget, period), refused(6, 0));
+    }
+    for (budget, period) in [(1, 1), (1, 60_000), (60_000, 60_000)] {
+        assert_eq!(supply(budget, period), None);
+    }
+    for (horizon, outcome) in [
+        (0, None),
+        (1, None),
+        (60_000, None),
+        (60_001, refused(7, 0)),
+        (65_535, refused(7, 0)),
+    ] {
+        assert_eq!(written_word(6, horizon), outcome);
+    }
+}
+
+#[test]
+fn refusals_8_and_9() {
+    for index in 1..=3 {
+        for kind in [0, 5, 255] {
+            assert_eq!(written(record(index), kind), refused(8, index as u8));
+        }
+        for next in [4, 255] {
+            assert_eq!(written(record(index) + 1, next), refused(9, index as u8));
+        }
+    }
+    assert_eq!(written(record(1) + 1, 3), refused(11, 3));
+}
+
+#[test]
+fn refusal_10() {
+    for used in [0, 2, 8, 9, 255] {
+        assert_eq!(written(record(2) + 2, used), refused(10, 2));
+    }
+    for (entry, outcome) in [
+        (0, refused(10, 2)),
+        (1, None),
+        (60_000, None),
+        (60_001, refused(10, 2)),
+    ] {
+        assert_eq!(written_word(record(2) + 12, entry), outcome);
+    }
+    let entries = |entries: &[u64]| read(&encode(&full(vec![timer(9, entries)]))).err();
+    assert_eq!(entries(&[1, 2, 3, 4, 5, 6, 7, 60_000]), None);
+    assert_eq!(entries(&[1, 2, 3, 4, 5, 6, 7, 7]), refused(10, 1));
+    assert_eq!(entries(&[3, 2]), refused(10, 1));
+    assert_eq!(entries(&[1, 60_001]), refused(10, 1));
+}
+
+#[test]
+fn refusal_5_of_a_record() {
+    for index in 1..=3 {
+        for at in [3, 10, 11, 14, 15, 26, 27, 28, 31] {
+            assert_eq!(written(record(index) + at, 1), refused(5, index as u8));
+        }
+    }
+}
+
+#[test]
+fn each_record_in_turn() {
+    let mut bytes = encode(&chain());
+    bytes[record(2)] = 0;
+    bytes[record(1) + 28] = 1;
+    assert_eq!(read(&bytes).err(), refused(5, 1));
+    bytes[record(1) + 2] = 0;
+    assert_eq!(read(&bytes).err(), refused(10, 1));
+    bytes[record(1) + 1] = 9;
+    assert_eq!(read(&bytes).err(), refused(9, 1));
+    bytes[record(1)] = 9;
+    assert_eq!(read(&bytes).err(), refused(8, 1));
+}
+
+/// Subscriptions linked as the list says, all with arrivals of a head.
+fn linked(nexts: &[usize]) -> Table {
+    let mut table = full(vec![subscription(9, &[1]); nexts.len()]);
+    for (callback, &next) in table.callbacks.iter_mut().zip(nexts) {
+        callback.next = next;
+    }
+    table
+}
+
+#[test]
+fn refusals_11_to_13() {
+    let links = |nexts: &[usize]| read(&encode(&linked(nexts))).err();
+    assert_eq!(links(&[3, 3, 0]), refused(11, 3));
+    assert_eq!(links(&[4, 3, 4, 3]), refused(11, 3));
+    assert_eq!(links(&[1, 1]), refused(11, 1));
+    assert_eq!(links(&[1]), refused(13, 1));
+    assert_eq!(links(&[0, 3, 2]), refused(13, 2));
+    assert_eq!(links(&[0, 3, 4, 2]), refused(13, 2));
+    assert_eq!(links(&[1, 3, 2]), refused(13, 1));
+    let mut table = linked(&[1, 3, 0, 4]);
+    table.callbacks[2].kind = Kind::Timer;
+    table.callbacks[3].kind = Kind::Timer;
+    assert_eq!(read(&encode(&table)).err(), refused(12, 3));
+    table.callbacks[0].next = 4;
+    assert_eq!(read(&encode(&table)).err(), refused(11, 4));
+}
+
+#[test]
+fn refusal_14() {
+    let head = |period, jitter, distance| {
+        let callbacks = vec![
+            timer(9, &[1]),
+            lone(Kind::Client, period, jitter, distance, &[1]),
+        ];
+        read(&encode(&full(callbacks))).err()
+    };
+    for (period, jitter, distance) in [
+        (0, 0, 0),
+        (0, 0, 1),
+        (60_001, 0, 1),
+        (9, 60_001, 9),
+        (9, 0, 0),
+        (9, 0, 10),
+    ] {
+        assert_eq!(head(period, jitter, distance), refused(14, 2));
+    }
+    for (period, jitter, distance) in [(1, 0, 1), (60_000, 60_000, 60_000), (60_000, 0, 1)] {
+        assert_eq!(head(period, jitter, distance), None);
+    }
+    for at in [4, 6, 8] {
+        assert_eq!(written(record(2) + at, 1), refused(14, 2));
+    }
+    assert_eq!(read(&encode(&linked(&[0, 1]))).err(), refused(14, 1));
+}
+
+#[test]
+fn every_number_is_reached() {
+    let mut random = Random::new(2);
+    for number in NUMBERS {
+        for _ in 0..300 {
+            let bytes = refused_with(&mut random, number);
+            let result = analyse(&bytes, &mut [0; 16]);
+            assert_eq!(result.err().map(|refusal| refusal.number), Some(number));
+        }
+    }
+}

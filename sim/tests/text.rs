@@ -1,0 +1,83 @@
+//! The formats and the program.
+
+mod common;
+use common::*;
+use sim::table::encode;
+use sim::text::{from_hex, hex, script, script_text};
+use std::io::Write;
+use std::process::{Command, Stdio};
+
+/// What the program prints on these words and input.
+fn program(words: &[&str], input: &[u8]) -> String {
+    let mut child = Command::new(env!("CARGO_BIN_EXE_sim"))
+        .args(words)
+        .stdin(Stdio::piped())
+        .stdout(Stdio::piped())
+        .spawn()
+        .unwrap();
+    child.stdin.take().unwrap().write_all(input).unwrap();
+    String::from_utf8(child.wait_with_output().unwrap().stdout).unwrap()
+}
+
+/// The program's print of P6.
+#[test]
+fn sheet_of_p6() {
+    let table = full(vec![timer(10, &[2]), subscription(20, &[3])]);
+    let bytes = encode(&table);
+    assert_eq!(program(&["sheet"], &bytes), "window 5\n1 5\n2 5\n");
+    assert_eq!(program(&["sheet"], &bytes[1..]), "refused 2 0\n");
+    let lines = format!("{}\n\n{}\n", hex(&bytes), hex(&bytes[..20]));
+    assert_eq!(
+        program(&["sheets"], lines.as_bytes()),
+        "window 5 5 5\nrefused 1 0\nrefused 4 0\n"
+    );
+}
+
+#[test]
+fn replay_of_p10() {
+    let table = full(vec![subscription(10, &[2]); 3]);
+    let text =
+        hex(&encode(&table)) + "\n6 1 2\n1 1 2\n# a remark\n\n0 0 2\n8 1 2\nset units 9\n0 1 2\n";
+    let expected = "start accepted\n0 ran 2 1 1 1 2\n1 finished 2 1 0 0 0\n2 nosupply 0 0 0 0 0\n\
+                    3 refused 20 4\n4 refused 29 0\n";
+    assert_eq!(program(&["replay"], text.as_bytes()), expected);
+    assert_eq!(
+        program(&["replay"], b"\n1 1 1\n"),
+        "start refused 1 0\n0 refused 29 0\n"
+    );
+}
+
+#[test]
+fn replay_with_states() {
+    let text = hex(&encode(&chain())) + "\n1 1 2\n";
+    let zeros = " 0".repeat(15);
+    let expected = format!("start accepted\n0 ran 1 1 1 0 0\nstate 1 1 1 0 1{zeros} 0{zeros}\n");
+    assert_eq!(program(&["replay", "states"], text.as_bytes()), expected);
+}
+
+#[test]
+fn generated_text_reads_back() {
+    for sort in ["within", "outside", "faulty"] {
+        let text = program(&["generate", "history", "11", sort, "40"], b"");
+        let read = script(&text).unwrap();
+        assert_eq!(script_text(&read), text);
+        assert!(program(&["replay"], text.as_bytes()).lines().count() == 41);
+    }
+    let text = program(&["generate", "tables", "11", "50"], b"");
+    assert_eq!(text.lines().count(), 50);
+    assert!(text.lines().all(|line| from_hex(line).is_ok()));
+}
+
+#[test]
+fn picture_has_its_parts() {
+    let text = program(&["generate", "history", "12", "within", "40"], b"");
+    let picture = program(&["svg"], text.as_bytes());
+    assert!(picture.starts_with("<svg ") && picture.ends_with("</svg>\n"));
+}
+
+#[test]
+fn bad_text_is_named() {
+    assert!(from_hex("0g").is_err() && from_hex("012").is_err() && from_hex("é").is_err());
+    assert!(script("\n1 2 3\n").is_err() && script("\n1 1\n").is_err());
+    assert!(script("\n65536 1 3\n").is_err() && script("\nset waiting 17 1\n").is_err());
+}
