@@ -1,6 +1,7 @@
-//! Seeded generators: tables, damaged tables, histories.
+//! Tables, damaged tables, states and histories, most of them from seeds.
 
 pub mod damage;
+pub mod edges;
 pub mod histories;
 pub mod states;
 pub mod tables;

@@ -2,6 +2,7 @@
 //! alone. Quoted sentences in the comments are that document's.
 
 pub mod check;
+pub mod frames;
 pub mod generate;
 pub mod history;
 pub mod machine;

@@ -1,19 +1,21 @@
 //! The simulator's program; README.md describes its subcommands.
 
 use sim::check::{check, report};
+use sim::frames::{framed, packed_history, readings, replies};
 use sim::generate::damage::damaged;
-use sim::generate::histories::{outside, within, Style};
+use sim::generate::edges::{base, edges};
+use sim::generate::histories::{covering, outside, within, Style};
 use sim::generate::states::{changes, sound, spoil};
 use sim::generate::tables::{any_shape, table, Shape};
-use sim::history::play;
+use sim::history::{longest_response, play, within_curves};
 use sim::machine::{start, Tick};
 use sim::picture::svg;
 use sim::random::Random;
 use sim::sheet::analyse;
 use sim::table::{encode, read, Table, MOST_CALLBACKS};
 use sim::text::{
-    from_hex, hex, refusal_text, reply_text, script, script_text, start_text, state_text, Line,
-    Script,
+    departure_text, from_hex, hex, refusal_text, reply_text, script, script_text, start_text,
+    state_text, Line, Script,
 };
 use std::io::{Read, Write};
 
@@ -21,27 +23,42 @@ const USAGE: &str = "usage:
   sim sheet                                  < table bytes
   sim sheets                                 < tables in hex, one a line
   sim replay [states]                        < history
-  sim svg                                    < history
+  sim svg [NAME ..]                          < history
+  sim within                                 < history
+  sim bytes                                  < hex
+  sim readings                               < frames
+  sim histories                              < a frame, then ticks of 7 bytes
   sim generate tables SEED COUNT [small|long|extreme|damaged]
   sim generate history SEED [within|outside|faulty] [TICKS]
+  sim generate readings
+  sim generate histories
   sim check SEED COUNT [TICKS]
 ";
 
 fn main() {
     let words: Vec<String> = std::env::args().skip(1).collect();
     let words: Vec<&str> = words.iter().map(String::as_str).collect();
-    let (text, code) = match run(&words) {
-        Ok(text) => (text, 0),
+    let (output, code) = match run(&words) {
+        Ok(output) => (output, 0),
         Err(text) => {
-            eprint!("{text}");
-            (String::new(), 2)
+            eprintln!("{}", text.trim_end());
+            (Vec::new(), 2)
         }
     };
-    let written = std::io::stdout().write_all(text.as_bytes());
+    let written = std::io::stdout().write_all(&output);
     std::process::exit(if written.is_ok() { code } else { 1 });
 }
 
-fn run(words: &[&str]) -> Result<String, String> {
+fn run(words: &[&str]) -> Result<Vec<u8>, String> {
+    match words {
+        ["bytes"] => from_hex(&text_input()?),
+        ["generate", "readings"] => Ok(edges().iter().flat_map(|bytes| framed(bytes)).collect()),
+        ["generate", "histories"] => Ok(packed_history(&encode(&base()), &covering())),
+        _ => text(words).map(String::into_bytes),
+    }
+}
+
+fn text(words: &[&str]) -> Result<String, String> {
     match words {
         ["sheet"] => Ok(sheet_text(&input()?)),
         ["sheets"] => text_input()?
@@ -50,7 +67,10 @@ fn run(words: &[&str]) -> Result<String, String> {
             .collect(),
         ["replay"] => Ok(replay(&script(&text_input()?)?, false)),
         ["replay", "states"] => Ok(replay(&script(&text_input()?)?, true)),
-        ["svg"] => picture(&script(&text_input()?)?),
+        ["svg", names @ ..] => picture(&script(&text_input()?)?, names),
+        ["within"] => judged(&script(&text_input()?)?),
+        ["readings"] => Ok(readings(&input()?)),
+        ["histories"] => Ok(replies(&input()?)),
         ["generate", "tables", seed, count, rest @ ..] => tables(seed, count, rest),
         ["generate", "history", seed, rest @ ..] => history(seed, rest),
         ["check", seed, count, rest @ ..] => checked(seed, count, rest),
@@ -125,14 +145,34 @@ fn replay(script: &Script, states: bool) -> String {
 fn plain_ticks(script: &Script) -> Result<Vec<Tick>, String> {
     let tick = |line: &Line| match line {
         Line::Tick(tick) => Ok(*tick),
-        Line::Set(_) => Err("a picture takes no set lines\n".to_string()),
+        Line::Set(_) => Err("set lines are for replay only\n".to_string()),
     };
     script.lines.iter().map(tick).collect()
 }
 
-fn picture(script: &Script) -> Result<String, String> {
+fn picture(script: &Script, names: &[&str]) -> Result<String, String> {
     let table = read(&script.table).map_err(|refusal| refusal_text(&refusal) + "\n")?;
-    Ok(svg(&table, &play(&script.table, &plain_ticks(script)?)))
+    let history = play(&script.table, &plain_ticks(script)?);
+    Ok(svg(&table, &history, names))
+}
+
+/// Whether a history is within the curves, and its longest responses.
+fn judged(script: &Script) -> Result<String, String> {
+    let mut row = [0; MOST_CALLBACKS];
+    if let Err(refusal) = analyse(&script.table, &mut row) {
+        return Ok(refusal_text(&refusal) + "\n");
+    }
+    let table = read(&script.table).map_err(|refusal| refusal_text(&refusal))?;
+    let history = play(&script.table, &plain_ticks(script)?);
+    let mut text = match within_curves(&table, &history) {
+        Ok(()) => "within\n".to_string(),
+        Err(departure) => departure_text(&departure) + "\n",
+    };
+    for index in 1..=table.count() {
+        let longest = longest_response(&table, index, &history);
+        text += &format!("{index} {} {longest}\n", row[index - 1]);
+    }
+    Ok(text)
 }
 
 fn tables(seed: &str, count: &str, rest: &[&str]) -> Result<String, String> {

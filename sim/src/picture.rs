@@ -2,10 +2,11 @@
 
 use crate::history::History;
 use crate::machine::{Answer, Reply};
+use crate::sheet::{bounds, window};
 use crate::table::{Kind, Table};
 use std::fmt::Write;
 
-const LEFT: usize = 130;
+const LEFT: usize = 190;
 const TOP: usize = 46;
 const ROW: usize = 34;
 const BAR: usize = 16;
@@ -18,9 +19,9 @@ struct Drawing {
     ticks: usize,
 }
 
-/// Rows by callback: arrivals, runs and completions, over unsupplied ticks
-/// and polling points.
-pub fn svg(table: &Table, history: &History) -> String {
+/// Rows by callback, with their names where given: arrivals, runs,
+/// completions and bounds, over unsupplied ticks and polling points.
+pub fn svg(table: &Table, history: &History, names: &[&str]) -> String {
     let ticks = history.ticks.len();
     let mut drawing = Drawing {
         text: String::new(),
@@ -31,14 +32,21 @@ pub fn svg(table: &Table, history: &History) -> String {
     drawing.open();
     drawing.unsupplied(history);
     drawing.axis();
+    drawing.pauses(history);
     for (place, reply) in history.replies.iter().enumerate() {
         drawing.reply(place, reply, table);
     }
     for index in 1..=table.count() {
-        drawing.row(index, table);
+        drawing.row(index, table, names.get(index - 1).copied());
         for time in history.activations(table, index) {
             drawing.activation(index, time as usize, table.is_head(index));
         }
+        for (time, instance) in history.starts(index) {
+            drawing.start(time as usize, index, instance);
+        }
+    }
+    if let Some(window) = window(table) {
+        drawing.dues(table, history, &bounds(table, window));
     }
     drawing.legend();
     drawing.text + "</svg>\n"
@@ -60,6 +68,11 @@ fn kind_fill(kind: Kind) -> &'static str {
         Kind::Service => "#5aa469",
         Kind::Client => "#8d6cab",
     }
+}
+
+/// A name as SVG writes it.
+fn escaped(name: &str) -> String {
+    name.replace('&', "&amp;").replace('<', "&lt;")
 }
 
 impl Drawing {
@@ -105,7 +118,7 @@ impl Drawing {
     }
 
     fn open(&mut self) {
-        let width = self.x(self.ticks).max(LEFT + 620) + 30;
+        let width = self.x(self.ticks).max(LEFT + 920) + 30;
         let height = self.bottom() + 76;
         self.put(format_args!(
             concat!(
@@ -126,8 +139,26 @@ impl Drawing {
         }
     }
 
+    /// A thin bar through the unsupplied ticks of an instance that runs.
+    fn pauses(&mut self, history: &History) {
+        let mut running = 0;
+        for (time, reply) in history.replies.iter().enumerate() {
+            match reply.outcome {
+                Ok(Answer::Ran { callback, .. }) => running = callback,
+                Ok(Answer::NoSupply) if running != 0 => {
+                    let at = (self.x(time), self.base(running) - BAR / 2 - 1);
+                    self.rectangle(at, (self.tick, 2), r##"fill="#888888""##);
+                }
+                Ok(Answer::Finished { .. }) => running = 0,
+                _ => {}
+            }
+        }
+    }
+
     /// Marks of time below the rows, with numbers where they have room.
     fn axis(&mut self) {
+        self.words((LEFT - 10, self.bottom() + 16), "end", "tick");
+        self.words((LEFT - 10, TOP - 14), "end", "taken by the poll");
         let every = if self.tick >= 20 {
             1
         } else {
@@ -142,7 +173,7 @@ impl Drawing {
         }
     }
 
-    fn row(&mut self, index: usize, table: &Table) {
+    fn row(&mut self, index: usize, table: &Table, name: Option<&str>) {
         let callback = table.callback(index);
         let y = self.base(index);
         self.line((LEFT, y), (self.x(self.ticks), y), r##"stroke="#888888""##);
@@ -151,7 +182,11 @@ impl Drawing {
         } else {
             format!(" to {}", callback.next)
         };
-        let label = format!("{index} {}{next}", kind_name(callback.kind));
+        let kind = kind_name(callback.kind);
+        let label = match name {
+            Some(name) => format!("{index} {} ({kind}{next})", escaped(name)),
+            None => format!("{index} {kind}{next}"),
+        };
         self.words((LEFT - 10, y - 4), "end", &label);
     }
 
@@ -171,14 +206,35 @@ impl Drawing {
         ));
     }
 
+    /// At the end of each chain: when the sheet has each instance completed.
+    fn dues(&mut self, table: &Table, history: &History, bounds: &[u64]) {
+        for index in (1..=table.count()).filter(|&i| table.callback(i).next == 0) {
+            let heads = history.activations(table, table.head_of(index));
+            for (place, activation) in heads.into_iter().enumerate() {
+                let due = (activation + bounds[index - 1]) as usize;
+                if due <= self.ticks {
+                    let (x, y) = (self.x(due), self.base(index));
+                    self.due_sign(x, y);
+                    self.words((x + 4, y - BAR - 2), "start", &(place + 1).to_string());
+                }
+            }
+        }
+    }
+
+    fn due_sign(&mut self, x: usize, y: usize) {
+        let style = r##"stroke="#2e7d32" stroke-width="2""##;
+        self.line((x, y), (x, y - BAR - 8), style);
+        self.line((x - 5, y - BAR - 8), (x, y - BAR - 8), style);
+    }
+
     fn reply(&mut self, time: usize, reply: &Reply, table: &Table) {
         if reply.polled {
             self.poll(self.x(time), reply.gathered);
         }
         match reply.outcome {
-            Ok(Answer::Ran { callback, .. }) => self.run(time, callback, table, reply.started),
+            Ok(Answer::Ran { callback, .. }) => self.run(time, callback, table),
             Ok(Answer::Finished { callback, .. }) => {
-                self.run(time, callback, table, reply.started);
+                self.run(time, callback, table);
                 self.finish(self.x(time + 1), self.base(callback));
             }
             Err(refusal) => {
@@ -197,17 +253,21 @@ impl Drawing {
         self.words((x, TOP - 14), "middle", &gathered.to_string());
     }
 
-    /// One tick of a run; a start has an edge at its left.
-    fn run(&mut self, time: usize, callback: usize, table: &Table, started: bool) {
+    /// One tick of a run.
+    fn run(&mut self, time: usize, callback: usize, table: &Table) {
         let fill = kind_fill(table.callback(callback).kind);
         let at = (self.x(time), self.base(callback) - BAR);
         self.rectangle(at, (self.tick, BAR), &format!(r#"fill="{fill}""#));
-        if started {
-            self.line(
-                at,
-                (at.0, at.1 + BAR),
-                r##"stroke="#222222" stroke-width="2""##,
-            );
+    }
+
+    /// An edge at the left of the first tick, and the instance's number.
+    fn start(&mut self, time: usize, callback: usize, instance: u64) {
+        let (x, y) = (self.x(time), self.base(callback));
+        let style = r##"stroke="#222222" stroke-width="2""##;
+        self.line((x, y - BAR), (x, y), style);
+        if self.tick >= 12 {
+            let at = (x + self.tick / 2 + 1, y - 4);
+            self.words(at, "middle", &instance.to_string());
         }
     }
 
@@ -228,7 +288,11 @@ impl Drawing {
         self.words((LEFT + 408, y), "start", "unsupplied");
         let style = r##"stroke="#7f5fa0" stroke-dasharray="3 3""##;
         self.line((LEFT + 490, y - 12), (LEFT + 490, y + 4), style);
-        self.words((LEFT + 498, y), "start", "poll, with what it took");
+        self.words((LEFT + 498, y), "start", "polling point");
+        self.rectangle((LEFT + 590, y - 5), (14, 2), r##"fill="#888888""##);
+        self.words((LEFT + 610, y), "start", "runs, but unsupplied");
+        self.due_sign(LEFT + 746, y + 5);
+        self.words((LEFT + 754, y), "start", "bound, at the end of a chain");
     }
 
     fn activation_sign(&mut self, x: usize, y: usize, colour: &str, words: &str) {

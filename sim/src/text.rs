@@ -1,5 +1,6 @@
 //! The text of tables, histories and replies.
 
+use crate::history::Departure;
 use crate::machine::{Answer, Reply, Start, State, Tick};
 use crate::table::Refusal;
 
@@ -143,6 +144,26 @@ pub fn script_text(script: &Script) -> String {
 /// "`refused`, number, index, parted by single spaces"
 pub fn refusal_text(refusal: &Refusal) -> String {
     format!("refused {} {}", refusal.number, refusal.index)
+}
+
+/// How a history leaves the curves, its ticks counted from 0.
+pub fn departure_text(departure: &Departure) -> String {
+    match departure {
+        Departure::Arrivals { head, from, length } => {
+            format!("outside arrivals {head} from {from} ticks {length}")
+        }
+        Departure::Supply { from, length } => format!("outside supply from {from} ticks {length}"),
+        Departure::Cost {
+            callback,
+            from,
+            instances,
+        } => format!(
+            "outside cost {callback} from {} instances {instances}",
+            from + 1
+        ),
+        Departure::Mask { tick } => format!("outside mask {tick}"),
+        Departure::CostRange { tick } => format!("outside range {tick}"),
+    }
 }
 
 pub fn start_text(start: &Start) -> String {

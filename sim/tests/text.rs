@@ -2,6 +2,9 @@
 
 mod common;
 use common::*;
+use sim::frames::{framed, packed_history, readings, replies};
+use sim::generate::edges::{base, edges};
+use sim::generate::histories::covering;
 use sim::table::encode;
 use sim::text::{from_hex, hex, script, script_text};
 use std::io::Write;
@@ -73,6 +76,8 @@ fn picture_has_its_parts() {
     let text = program(&["generate", "history", "12", "within", "40"], b"");
     let picture = program(&["svg"], text.as_bytes());
     assert!(picture.starts_with("<svg ") && picture.ends_with("</svg>\n"));
+    let named = program(&["svg", "a<b"], text.as_bytes());
+    assert!(named.contains(">1 a&lt;b (") && !picture.contains("a&lt;b"));
 }
 
 #[test]
@@ -80,4 +85,68 @@ fn bad_text_is_named() {
     assert!(from_hex("0g").is_err() && from_hex("012").is_err() && from_hex("é").is_err());
     assert!(script("\n1 2 3\n").is_err() && script("\n1 1\n").is_err());
     assert!(script("\n65536 1 3\n").is_err() && script("\nset waiting 17 1\n").is_err());
+}
+
+#[test]
+fn judgement_of_a_history() {
+    let bytes = hex(&encode(&full(vec![subscription(10, &[2]); 2])));
+    let within = format!("{bytes}\n3 1 2\n0 1 2\n0 1 2\n0 1 1\n");
+    assert_eq!(
+        program(&["within"], within.as_bytes()),
+        "within\n1 4 2\n2 4 4\n"
+    );
+    for (ticks, departure) in [
+        ("1 1 1\n1 1 1\n", "outside arrivals 1 from 0 ticks 2"),
+        ("0 1 1\n0 0 1\n", "outside supply from 0 ticks 2"),
+        ("1 1 3\n", "outside cost 1 from 1 instances 1"),
+        ("0 1 1\n4 1 1\n", "outside mask 1"),
+        ("0 1 0\n", "outside range 0"),
+    ] {
+        let text = program(&["within"], format!("{bytes}\n{ticks}").as_bytes());
+        assert_eq!(text.lines().next(), Some(departure));
+    }
+    assert_eq!(program(&["within"], b"\n"), "refused 1 0\n");
+}
+
+/// Hex, frames and ticks in binary say what the texts say.
+#[test]
+fn binary_input() {
+    let table = full(vec![subscription(10, &[2]); 3]);
+    let bytes = encode(&table);
+    assert_eq!(program(&["bytes"], b"31320a\n"), "12\n");
+    let frames = [framed(&bytes), framed(&[]), framed(&bytes[..20])].concat();
+    assert_eq!(program(&["readings"], &frames), "0 0\n1 0\n4 0\n");
+    assert_eq!(
+        program(&["readings"], &frames[..frames.len() - 1]),
+        "0 0\n1 0\n"
+    );
+    let history = packed_history(&bytes, &[(tick(6, 2), 1), (tick(1, 65_537), 255)]);
+    assert_eq!(
+        program(&["histories"], &history),
+        "0 ran 2 1 1 1 2\n1 refused 19 0\n"
+    );
+}
+
+/// What the programs of the gate are given has every number and answer.
+#[test]
+fn binary_input_covers() {
+    let frames: Vec<u8> = edges().iter().flat_map(|bytes| framed(bytes)).collect();
+    let text = readings(&frames);
+    for number in 0..=14 {
+        assert!(text
+            .lines()
+            .any(|line| line.starts_with(&format!("{number} "))));
+    }
+    let text = replies(&packed_history(&encode(&base()), &covering()));
+    for said in [
+        "nosupply",
+        "idle",
+        "ran",
+        "finished",
+        "refused 19",
+        "refused 20",
+        "refused 21",
+    ] {
+        assert!(text.contains(&format!(" {said} ")), "{said}");
+    }
 }

@@ -223,3 +223,43 @@ fn spoil(random: &mut Random, tick: &mut Tick) {
         tick.cost = *random.pick(&[0, LARGEST, LARGEST + 1, 65_535]);
     }
 }
+
+/// What the covering history offers in one tick; any byte but 0 for supplied.
+fn offer(mask: u16, supplied: u8, cost: u64) -> (Tick, u8) {
+    let tick = Tick {
+        mask,
+        supplied: supplied != 0,
+        cost,
+    };
+    (tick, supplied)
+}
+
+/// A history of the table of four callbacks in `edges`, with every answer
+/// and each refusal from 19 to 21: both ends of the cost, a follower's bit and
+/// bits of no callback, a full head and a full follower.
+pub fn covering() -> Vec<(Tick, u8)> {
+    let mut offers = vec![offer(0, 1, 1), offer(0, 0, 60_000), offer(0, 255, 60_000)];
+    for cost in [0, 60_001, 65_536, 65_537, 125_536, u64::from(u32::MAX)] {
+        offers.push(offer(0, 1, cost));
+        offers.push(offer(0, 0, cost));
+    }
+    for mask in [2, 3, 16, 0x8000, 0xFFFF, 0x8010] {
+        offers.push(offer(mask, 1, 1));
+        offers.push(offer(mask, 0, 1));
+    }
+    // All heads at once, run to idleness.
+    offers.push(offer(13, 1, 3));
+    offers.extend([offer(0, 1, 3); 14]);
+    // Client 3 fills up, and is full in an unsupplied and in a supplied tick.
+    offers.extend([offer(4, 0, 1); 256]);
+    offers.push(offer(12, 1, 1));
+    // Timer 1 beats in every tick, so that its follower 2 fills up.
+    offers.extend([offer(1, 1, 1); 256]);
+    // With cost 2 nothing finishes, and nothing is activated; then the timer fills up too.
+    offers.push(offer(1, 1, 2));
+    offers.extend([offer(1, 0, 1); 256]);
+    offers.push(offer(5, 1, 1));
+    // Nothing arrives: first 21 for the follower, for ever.
+    offers.extend([offer(0, 1, 1); 4]);
+    offers
+}

@@ -1,0 +1,7 @@
+//! Plain Rust that does what the library does: the same checks on the same
+//! bytes, the same searches, the same refusals. It is what the library is
+//! timed against.
+
+pub mod machine;
+pub mod sheet;
+pub mod table;

@@ -1,0 +1,198 @@
+//! The reader.
+
+use library::Refusal;
+
+pub const PLACES: usize = 16;
+pub const LARGEST: u16 = 60_000;
+pub const HEADER: usize = 16;
+pub const RECORD: usize = 32;
+const ENTRIES: usize = 8;
+
+pub const TIMER: u8 = 1;
+pub const KINDS: usize = 4;
+
+#[derive(Clone, Copy, Default)]
+pub struct Callback {
+    pub next: u8,
+    pub entries: u8,
+    pub period: u16,
+    pub jitter: u16,
+    pub distance: u16,
+    pub cost: [u16; ENTRIES],
+}
+
+/// A table that the reader took, with what the links say.
+pub struct Table {
+    pub count: usize,
+    pub budget: u16,
+    pub period: u16,
+    pub horizon: u16,
+    pub callbacks: [Callback; PLACES],
+    /// Heads, one bit for each.
+    pub heads: u16,
+    /// Callbacks of each kind, one bit for each.
+    pub kinds: [u16; KINDS],
+}
+
+pub fn word(bytes: &[u8], at: usize) -> u16 {
+    u16::from_le_bytes([bytes[at], bytes[at + 1]])
+}
+
+/// Whether all are zero; one sum of bits, so that the loop is vectorised.
+pub fn zero(bytes: &[u8]) -> bool {
+    bytes.iter().fold(0, |sum, byte| sum | byte) == 0
+}
+
+/// The slots below n.
+pub fn all(count: usize) -> u16 {
+    u16::MAX >> (PLACES - count)
+}
+
+fn lowest(mask: u16) -> u8 {
+    mask.trailing_zeros() as u8 + 1
+}
+
+pub fn refuse(number: u8, index: u8) -> Refusal {
+    Refusal { number, index }
+}
+
+pub fn read(bytes: &[u8]) -> Result<Table, Refusal> {
+    let mut table = header(bytes)?;
+    for slot in 0..table.count {
+        let start = HEADER + RECORD * slot;
+        let record = &bytes[start..start + RECORD];
+        table.callbacks[slot] = callback(record, slot as u8 + 1, table.count)?;
+        table.kinds[usize::from(record[0]) - 1] |= 1 << slot;
+    }
+    links(&mut table)?;
+    arrivals(&table)?;
+    Ok(table)
+}
+
+fn header(bytes: &[u8]) -> Result<Table, Refusal> {
+    if bytes.len() < HEADER {
+        return Err(refuse(1, 0));
+    }
+    if bytes[0] != 1 {
+        return Err(refuse(2, 0));
+    }
+    let count = usize::from(bytes[1]);
+    if count == 0 || count > PLACES {
+        return Err(refuse(3, 0));
+    }
+    if bytes.len() != HEADER + RECORD * count {
+        return Err(refuse(4, 0));
+    }
+    if !zero(&bytes[8..HEADER]) {
+        return Err(refuse(5, 0));
+    }
+    let (budget, period, horizon) = (word(bytes, 2), word(bytes, 4), word(bytes, 6));
+    if budget == 0 || budget > period || period > LARGEST {
+        return Err(refuse(6, 0));
+    }
+    if horizon > LARGEST {
+        return Err(refuse(7, 0));
+    }
+    Ok(Table {
+        count,
+        budget,
+        period,
+        horizon,
+        callbacks: [Callback::default(); PLACES],
+        heads: 0,
+        kinds: [0; KINDS],
+    })
+}
+
+fn callback(record: &[u8], index: u8, count: usize) -> Result<Callback, Refusal> {
+    let (kind, next, entries) = (record[0], record[1], record[2]);
+    if kind == 0 || usize::from(kind) > KINDS {
+        return Err(refuse(8, index));
+    }
+    if usize::from(next) > count {
+        return Err(refuse(9, index));
+    }
+    let used = usize::from(entries);
+    if used == 0 || used > ENTRIES {
+        return Err(refuse(10, index));
+    }
+    let mut cost = [0; ENTRIES];
+    for (place, entry) in cost.iter_mut().enumerate() {
+        *entry = word(record, 12 + 2 * place);
+    }
+    let rising = cost[..used].windows(2).all(|pair| pair[0] < pair[1]);
+    if cost[0] == 0 || !rising || cost[used - 1] > LARGEST {
+        return Err(refuse(10, index));
+    }
+    let unused = cost[used..].iter().any(|&entry| entry != 0);
+    if unused || record[3] != 0 || !zero(&record[10..12]) || !zero(&record[28..32]) {
+        return Err(refuse(5, index));
+    }
+    Ok(Callback {
+        next,
+        entries,
+        period: word(record, 4),
+        jitter: word(record, 6),
+        distance: word(record, 8),
+        cost,
+    })
+}
+
+fn links(table: &mut Table) -> Result<(), Refusal> {
+    let (mut once, mut twice) = (0u16, 0u16);
+    for callback in &table.callbacks[..table.count] {
+        if callback.next != 0 {
+            let named = 1 << (callback.next - 1);
+            twice |= once & named;
+            once |= named;
+        }
+    }
+    if twice != 0 {
+        return Err(refuse(11, lowest(twice)));
+    }
+    let timers = once & table.kinds[usize::from(TIMER) - 1];
+    if timers != 0 {
+        return Err(refuse(12, lowest(timers)));
+    }
+    table.heads = all(table.count) & !once;
+    let loops = all(table.count) & !reached(table);
+    if loops != 0 {
+        return Err(refuse(13, lowest(loops)));
+    }
+    Ok(())
+}
+
+/// The slots on chains from the heads; with none named twice all others are
+/// on loops.
+fn reached(table: &Table) -> u16 {
+    let mut reached = table.heads;
+    let mut heads = table.heads;
+    while heads != 0 {
+        let mut at = table.callbacks[heads.trailing_zeros() as usize].next;
+        while at != 0 {
+            reached |= 1 << (at - 1);
+            at = table.callbacks[usize::from(at) - 1].next;
+        }
+        heads &= heads - 1;
+    }
+    reached
+}
+
+fn arrivals(table: &Table) -> Result<(), Refusal> {
+    for (slot, callback) in table.callbacks[..table.count].iter().enumerate() {
+        let (period, jitter, distance) = (callback.period, callback.jitter, callback.distance);
+        let fault = if table.heads & (1 << slot) != 0 {
+            period == 0
+                || period > LARGEST
+                || jitter > LARGEST
+                || distance == 0
+                || distance > period
+        } else {
+            period | jitter | distance != 0
+        };
+        if fault {
+            return Err(refuse(14, slot as u8 + 1));
+        }
+    }
+    Ok(())
+}

@@ -1,0 +1,226 @@
+//! What is timed: tables to analyse, and ticks in lent bytes.
+
+use crate::agree::{self, packed, Offer, PLACES};
+use sim::generate::histories::{within, Style};
+use sim::generate::tables::{table, Shape};
+use sim::machine::{start, Tick};
+use sim::random::Random;
+use sim::sheet::analyse;
+use sim::table::{encode, Callback, Kind, Table, LARGEST};
+use sim::text::{script, Line};
+use std::hint::black_box;
+
+pub struct Work {
+    pub name: String,
+    pub unit: &'static str,
+    calls: Calls,
+}
+
+enum Calls {
+    Sheets(Vec<Vec<u8>>),
+    /// A state, and ticks on it one after the other.
+    Ticks(Vec<u8>, Vec<Offer>),
+}
+
+/// Which of the two is called.
+#[derive(Clone, Copy)]
+pub enum Side {
+    Library,
+    Plain,
+}
+
+impl Work {
+    fn sheets(name: &str, tables: Vec<Vec<u8>>) -> Work {
+        Work {
+            name: format!("analyser, {name}"),
+            unit: "table",
+            calls: Calls::Sheets(tables),
+        }
+    }
+
+    fn ticks(name: &str, state: Vec<u8>, offers: Vec<Offer>) -> Work {
+        Work {
+            name: format!("tick, {name}"),
+            unit: "tick",
+            calls: Calls::Ticks(state, offers),
+        }
+    }
+
+    /// How many calls one pass makes.
+    pub fn count(&self) -> usize {
+        match &self.calls {
+            Calls::Sheets(tables) => tables.len(),
+            Calls::Ticks(_, offers) => offers.len(),
+        }
+    }
+
+    pub fn pass(&self, side: Side) {
+        match (&self.calls, side) {
+            (Calls::Sheets(tables), Side::Library) => sheets(tables, agree::library_sheet),
+            (Calls::Sheets(tables), Side::Plain) => sheets(tables, agree::plain_sheet),
+            (Calls::Ticks(state, offers), Side::Library) => {
+                ticks(state, offers, agree::library_tick)
+            }
+            (Calls::Ticks(state, offers), Side::Plain) => ticks(state, offers, agree::plain_tick),
+        }
+    }
+
+    /// Whether both sides give the same; gives how many calls.
+    pub fn agree(&self) -> Result<u64, String> {
+        let told = |what| format!("{}: {what}", self.name);
+        match &self.calls {
+            Calls::Sheets(tables) => {
+                for bytes in tables {
+                    agree::sheets(bytes).map_err(told)?;
+                }
+            }
+            Calls::Ticks(state, offers) => {
+                let mut state = state.clone();
+                for &offer in offers {
+                    state = agree::ticks(&state, offer).map_err(told)?;
+                }
+            }
+        }
+        Ok(self.count() as u64)
+    }
+}
+
+#[inline(always)]
+fn sheets<R>(tables: &[Vec<u8>], analyse: impl Fn(&[u8], &mut [u16]) -> R) {
+    let mut row = [0; PLACES];
+    for bytes in tables {
+        black_box(analyse(black_box(bytes), black_box(&mut row)));
+    }
+}
+
+#[inline(always)]
+fn ticks<R>(state: &[u8], offers: &[Offer], tick: impl Fn(&mut [u8], Offer) -> R) {
+    let mut state = state.to_vec();
+    for &offer in offers {
+        black_box(tick(black_box(&mut state), black_box(offer)));
+    }
+}
+
+/// All that is timed, from fixed seeds.
+pub fn all() -> Vec<Work> {
+    let mut random = Random::new(7);
+    let desk = include_bytes!("../../examples/desk.table").to_vec();
+    let short = |window, _: &Table| (1..=100).contains(&window);
+    let long = |window, _: &Table| (2_000..=20_000).contains(&window);
+    let unsettled = |window, table: &Table| window == 0 && table.count() >= 8 && table.horizon == 0;
+    let mut works = vec![
+        Work::sheets("the desk of docs/GUIDE.md", vec![desk]),
+        Work::sheets(
+            "windows up to 100",
+            drawn(&mut random, 200, Shape::Small, short),
+        ),
+        Work::sheets(
+            "windows of 2,000 to 20,000",
+            drawn(&mut random, 12, Shape::Long, long),
+        ),
+        Work::sheets(
+            "no window up to 60,000",
+            drawn(&mut random, 4, Shape::Small, unsettled),
+        ),
+        Work::sheets("16 callbacks, window 59,984", vec![encode(&longest())]),
+        desk_history(),
+        busy_history(&mut random),
+    ];
+    works.extend(repeated());
+    works
+}
+
+/// Tables whose window, 0 for none, is as wanted.
+fn drawn(
+    random: &mut Random,
+    count: usize,
+    shape: Shape,
+    wanted: impl Fn(u64, &Table) -> bool,
+) -> Vec<Vec<u8>> {
+    let mut tables = Vec::new();
+    while tables.len() < count {
+        let table = table(random, shape);
+        let bytes = encode(&table);
+        let window = match analyse(&bytes, &mut [0; PLACES]) {
+            Ok(window) => window,
+            Err(refusal) if refusal.number == 15 => 0,
+            Err(_) => continue,
+        };
+        if wanted(window, &table) {
+            tables.push(bytes);
+        }
+    }
+    tables
+}
+
+/// Sixteen lone callbacks that together need nearly the largest window.
+fn longest() -> Table {
+    let lone = Callback {
+        kind: Kind::Subscription,
+        next: 0,
+        entries: vec![LARGEST / 16 - 1],
+        period: LARGEST,
+        jitter: 0,
+        distance: LARGEST,
+    };
+    Table {
+        budget: 1,
+        period: 1,
+        horizon: 0,
+        callbacks: vec![lone; 16],
+    }
+}
+
+fn offered(tick: &Tick) -> Offer {
+    (tick.mask, tick.supplied.into(), tick.cost as u32)
+}
+
+/// The recorded history of the desk.
+fn desk_history() -> Work {
+    let script = script(include_str!("../../examples/desk.history")).expect("a history");
+    let tick = |line: &Line| match line {
+        Line::Tick(tick) => offered(tick),
+        Line::Set(_) => unreachable!("a recorded history writes nothing"),
+    };
+    let state = packed(&start(&script.table).state);
+    let offers = script.lines.iter().map(tick).collect();
+    Work::ticks("the desk of docs/GUIDE.md", state, offers)
+}
+
+/// Sixteen callbacks, pressed as hard as the curves permit.
+fn busy_history(random: &mut Random) -> Work {
+    let table = loop {
+        let table = table(random, Shape::Small);
+        let taken = analyse(&encode(&table), &mut [0; PLACES]).is_ok();
+        if taken && table.count() == 16 {
+            break table;
+        }
+    };
+    let history = within(random, &table, &Style::greedy(&table), 2_000);
+    let offers = history.ticks.iter().map(offered).collect();
+    Work::ticks(
+        "16 callbacks, greedy",
+        packed(&start(&encode(&table)).state),
+        offers,
+    )
+}
+
+/// The same offer over and over: idle ticks, and ticks that are refused.
+fn repeated() -> Vec<Work> {
+    let state = packed(&start(&encode(&longest())).state);
+    let mut damaged = state.clone();
+    damaged[630] = 1;
+    vec![
+        Work::ticks("16 callbacks, idle", state.clone(), vec![(0, 1, 1); 1_000]),
+        Work::ticks(
+            "16 callbacks, refused with 19",
+            state,
+            vec![(0, 1, 0); 1_000],
+        ),
+        Work::ticks(
+            "16 callbacks, refused with 29",
+            damaged,
+            vec![(0, 1, 1); 1_000],
+        ),
+    ]
+}

@@ -1,0 +1,65 @@
+//! Tables and histories in binary: the input of the programs `readings` and
+//! `histories`.
+
+use crate::machine::{start, Tick};
+use crate::table::read;
+use crate::text::reply_text;
+
+/// Mask, supplied, cost.
+const TICK_BYTES: usize = 7;
+
+/// A frame: the length in two bytes, then the bytes.
+pub fn framed(bytes: &[u8]) -> Vec<u8> {
+    let length = u16::try_from(bytes.len()).expect("a short frame");
+    [&length.to_le_bytes(), bytes].concat()
+}
+
+/// The first frame of the input and what follows it; none where it is cut
+/// short.
+fn frame(input: &[u8]) -> Option<(&[u8], &[u8])> {
+    let (length, rest) = input.split_first_chunk::<2>()?;
+    rest.split_at_checked(u16::from_le_bytes(*length).into())
+}
+
+/// `NUMBER INDEX` for each frame, 0 and 0 where the reader takes it.
+pub fn readings(mut input: &[u8]) -> String {
+    let mut text = String::new();
+    while let Some((bytes, rest)) = frame(input) {
+        text += &match read(bytes) {
+            Ok(_) => "0 0\n".to_string(),
+            Err(refusal) => format!("{} {}\n", refusal.number, refusal.index),
+        };
+        input = rest;
+    }
+    text
+}
+
+/// A history: a frame with the table, then the ticks.
+pub fn packed_history(table: &[u8], ticks: &[(Tick, u8)]) -> Vec<u8> {
+    let mut bytes = framed(table);
+    for (tick, supplied) in ticks {
+        bytes.extend(tick.mask.to_le_bytes());
+        bytes.push(*supplied);
+        bytes.extend((tick.cost as u32).to_le_bytes());
+    }
+    bytes
+}
+
+/// A line for each tick of such a history, as `replay` prints it.
+pub fn replies(input: &[u8]) -> String {
+    let Some((table, rest)) = frame(input) else {
+        return String::new();
+    };
+    let mut state = start(table).state;
+    let mut text = String::new();
+    for (time, bytes) in rest.chunks_exact(TICK_BYTES).enumerate() {
+        let step = state.tick(Tick {
+            mask: u16::from_le_bytes([bytes[0], bytes[1]]),
+            supplied: bytes[2] != 0,
+            cost: u32::from_le_bytes([bytes[3], bytes[4], bytes[5], bytes[6]]).into(),
+        });
+        state = step.state;
+        text += &(reply_text(time, &step.reply) + "\n");
+    }
+    text
+}

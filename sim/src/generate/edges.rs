@@ -1,0 +1,182 @@
+//! Tables with one field at the ends of its range and a step beyond them,
+//! and bytes cut short or too long.
+
+use crate::table::{
+    encode, Callback, Kind, Table, HEADER_BYTES, MOST_CALLBACKS, MOST_ENTRIES, RECORD_BYTES,
+};
+
+/// The ends of 1 to 60,000 and of sixteen bits, with their neighbours.
+const ENDS: [u16; 8] = [0, 1, 2, 59_999, 60_000, 60_001, 65_534, 65_535];
+
+fn lone(kind: Kind, entries: &[u64]) -> Callback {
+    Callback {
+        kind,
+        next: 0,
+        entries: entries.to_vec(),
+        period: 100,
+        jitter: 20,
+        distance: 50,
+    }
+}
+
+fn full(callbacks: Vec<Callback>) -> Table {
+    Table {
+        budget: 1,
+        period: 1,
+        horizon: 0,
+        callbacks,
+    }
+}
+
+/// Timer 1 activates subscription 2; client 3 and service 4 stand alone.
+pub fn base() -> Table {
+    let mut callbacks = vec![
+        lone(Kind::Timer, &[2]),
+        lone(Kind::Subscription, &[3]),
+        lone(Kind::Client, &[4, 7]),
+        lone(Kind::Service, &[1, 2, 3, 4, 5, 6, 7, 8]),
+    ];
+    callbacks[0].next = 2;
+    let follower = &mut callbacks[1];
+    (follower.period, follower.jitter, follower.distance) = (0, 0, 0);
+    full(callbacks)
+}
+
+fn with_byte(bytes: &[u8], at: usize, value: u8) -> Vec<u8> {
+    let mut other = bytes.to_vec();
+    other[at] = value;
+    other
+}
+
+fn with_word(bytes: &[u8], at: usize, value: u16) -> Vec<u8> {
+    let mut other = bytes.to_vec();
+    other[at..at + 2].copy_from_slice(&value.to_le_bytes());
+    other
+}
+
+pub fn edges() -> Vec<Vec<u8>> {
+    let bytes = encode(&base());
+    let mut tables = vec![bytes.clone()];
+    header(&bytes, &mut tables);
+    for index in 1..=base().count() {
+        let record = HEADER_BYTES + RECORD_BYTES * (index - 1);
+        fields(&bytes, record, &mut tables);
+        if base().callback(index).entries.len() > 1 {
+            entries(&bytes, record, &mut tables);
+        }
+    }
+    links(&mut tables);
+    lengths(&bytes, &mut tables);
+    tables
+}
+
+fn header(bytes: &[u8], tables: &mut Vec<Vec<u8>>) {
+    tables.extend([0, 2, 255].map(|edition| with_byte(bytes, 0, edition)));
+    tables.extend([0, 1, 3, 5, 16, 17, 255].map(|count| with_byte(bytes, 1, count)));
+    for value in ENDS {
+        tables.push(with_word(bytes, 2, value));
+        tables.push(with_word(bytes, 4, value));
+        tables.push(with_word(&with_word(bytes, 4, value), 2, value));
+        tables.push(with_word(&with_word(bytes, 4, 59_999), 2, value));
+        tables.push(with_word(bytes, 6, value));
+    }
+    tables.extend((8..HEADER_BYTES).map(|spare| with_byte(bytes, spare, 1)));
+}
+
+/// Kind, next, spare bytes, T, J and d of one record.
+fn fields(bytes: &[u8], record: usize, tables: &mut Vec<Vec<u8>>) {
+    tables.extend([0, 1, 2, 3, 4, 5, 255].map(|kind| with_byte(bytes, record, kind)));
+    tables.extend([0, 1, 2, 3, 4, 5, 255].map(|next| with_byte(bytes, record + 1, next)));
+    let spare = [3, 10, 11, 28, 29, 30, 31];
+    tables.extend(spare.map(|at| with_byte(bytes, record + at, 128)));
+    for value in ENDS {
+        for at in [4, 6, 8] {
+            tables.push(with_word(bytes, record + at, value));
+        }
+        tables.push(with_word(
+            &with_word(bytes, record + 4, value),
+            record + 8,
+            value,
+        ));
+    }
+    tables.extend([49, 99, 100, 101].map(|value| with_word(bytes, record + 8, value)));
+}
+
+/// The number of entries and each entry of one record.
+fn entries(bytes: &[u8], record: usize, tables: &mut Vec<Vec<u8>>) {
+    for used in [0, 1, 2, 3, 7, 8, 9, 255] {
+        tables.push(with_byte(bytes, record + 2, used));
+    }
+    for entry in 0..MOST_ENTRIES {
+        let at = record + 12 + 2 * entry;
+        let before = u16::from_le_bytes([bytes[at - 2], bytes[at - 1]]);
+        for value in [0, 1, before, before + 1, 60_000, 60_001, 65_535] {
+            tables.push(with_word(bytes, at, value));
+        }
+    }
+}
+
+/// Callbacks of one kind, each with this next.
+fn linked(kind: Kind, nexts: &[usize]) -> Vec<u8> {
+    let mut callbacks = vec![lone(kind, &[1]); nexts.len()];
+    for (callback, &next) in callbacks.iter_mut().zip(nexts) {
+        callback.next = next;
+    }
+    for &named in nexts.iter().filter(|&&next| next != 0) {
+        let follower = &mut callbacks[named - 1];
+        (follower.period, follower.jitter, follower.distance) = (0, 0, 0);
+    }
+    encode(&full(callbacks))
+}
+
+/// Chains, loops and callbacks named twice.
+fn links(tables: &mut Vec<Vec<u8>>) {
+    let ring: Vec<usize> = (2..=MOST_CALLBACKS).chain([1]).collect();
+    let chain: Vec<usize> = (2..=MOST_CALLBACKS).chain([0]).collect();
+    let back: Vec<usize> = [0].into_iter().chain(1..MOST_CALLBACKS).collect();
+    let nexts: [&[usize]; 11] = [
+        &[0],
+        &[1],
+        &[2, 1],
+        &[0, 3, 2],
+        &[2, 3, 2],
+        &[3, 3, 0],
+        &[3, 3, 3],
+        &[2, 3, 0, 4],
+        &ring,
+        &chain,
+        &back,
+    ];
+    for next in nexts {
+        for kind in [Kind::Timer, Kind::Subscription, Kind::Client] {
+            tables.push(linked(kind, next));
+        }
+    }
+    tables.push(linked(Kind::Service, &[0; MOST_CALLBACKS]));
+}
+
+fn lengths(bytes: &[u8], tables: &mut Vec<Vec<u8>>) {
+    let largest = linked(Kind::Timer, &[0; MOST_CALLBACKS]);
+    for whole in [bytes, &largest] {
+        for length in [
+            0,
+            1,
+            2,
+            15,
+            16,
+            17,
+            47,
+            48,
+            49,
+            whole.len() - 32,
+            whole.len() - 1,
+        ] {
+            tables.push(whole[..length].to_vec());
+        }
+        for more in [1, 15, 16, 31, 32, 33, 64] {
+            let mut longer = whole.to_vec();
+            longer.resize(whole.len() + more, 0);
+            tables.push(longer);
+        }
+    }
+}

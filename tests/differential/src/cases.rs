@@ -1,0 +1,358 @@
+//! What one seed draws: tables, histories, states and lengths.
+
+use crate::compare::{Comparison, Offer, Outcome};
+use crate::fence::SEED;
+use crate::layout::{pack, LENGTH};
+use sim::generate::damage::{damaged, refused_with, NUMBERS};
+use sim::generate::histories::{outside, within, Style};
+use sim::generate::states::{sound, spoil};
+use sim::generate::tables::{any_shape, table, Shape};
+use sim::history::conclusions;
+use sim::machine::{bit, Tick};
+use sim::random::Random;
+use sim::table::{encode, Callback, Kind, Table, LARGEST, MOST_CALLBACKS};
+use sim::text::hex;
+use std::sync::atomic::Ordering;
+
+const TABLES: u64 = 100;
+const DISTURBED: u64 = 300;
+const SCATTERED: u64 = 300;
+
+/// In the range, at its ends and outside it, some in their low sixteen bits only.
+const COSTS: [u32; 12] = [
+    0,
+    1,
+    2,
+    59_999,
+    60_000,
+    60_001,
+    65_535,
+    65_536,
+    65_537,
+    125_536,
+    1 << 31,
+    u32::MAX,
+];
+const SUPPLIES: [u8; 5] = [0, 1, 2, 128, 255];
+const LENGTHS: [usize; 12] = [0, 1, 2, 16, 527, 528, 632, 639, 641, 656, 1_280, 2_000];
+
+type Case = fn(&mut Comparison, &mut Random) -> Outcome;
+
+const CASES: [(&str, Case); 8] = [
+    ("tables", tables),
+    ("longest window", longest_window),
+    ("history within the curves", history_within),
+    ("history outside the curves", history_outside),
+    ("disturbed states", disturbed),
+    ("damaged state", damaged_state),
+    ("offers", offers),
+    ("lengths", lengths),
+];
+
+/// Everything that a seed draws.
+pub fn run(comparison: &mut Comparison, seed: u64) -> Outcome {
+    SEED.store(seed, Ordering::Relaxed);
+    let mut random = Random::new(seed);
+    for (name, case) in CASES {
+        case(comparison, &mut random).map_err(|what| format!("seed {seed}, {name}: {what}"))?;
+    }
+    Ok(())
+}
+
+/// Tables with each field at the ends of its range and a step beyond.
+pub fn edges(comparison: &mut Comparison) -> Outcome {
+    let mut random = Random::new(0);
+    for bytes in sim::generate::edges::edges() {
+        one_table(comparison, &mut random, &bytes).map_err(|what| format!("edges: {what}"))?;
+    }
+    Ok(())
+}
+
+fn noise(random: &mut Random, length: usize) -> Vec<u8> {
+    (0..length).map(|_| random.bits() as u8).collect()
+}
+
+fn noisy_row(random: &mut Random, places: u64) -> Vec<u16> {
+    (0..places).map(|_| random.bits() as u16).collect()
+}
+
+/// Reader, analyser (rows of fewer than sixteen places, and of more) and
+/// start on one table; window and row where the analyser takes it.
+fn one_table(
+    comparison: &mut Comparison,
+    random: &mut Random,
+    bytes: &[u8],
+) -> Outcome<Option<(u16, Vec<u16>)>> {
+    let mut all = || {
+        comparison.read(bytes)?;
+        let short = random.range(0, MOST_CALLBACKS as u64 - 1);
+        comparison.analyse(bytes, &noisy_row(random, short))?;
+        let places = *random.pick(&[16, 16, 17, 24, 100]);
+        let sheet = comparison.analyse(bytes, &noisy_row(random, places))?;
+        comparison.start(bytes, &noise(random, LENGTH))?;
+        comparison.totals.tables += 1;
+        comparison.totals.accepted += u64::from(sheet.0 != 0);
+        Ok((sheet.0 != 0).then_some(sheet))
+    };
+    all().map_err(|what: String| format!("{what}\ntable {}", hex(bytes)))
+}
+
+fn tables(comparison: &mut Comparison, random: &mut Random) -> Outcome {
+    for number in NUMBERS {
+        let bytes = refused_with(random, number);
+        one_table(comparison, random, &bytes)?;
+    }
+    for _ in NUMBERS.count() as u64..TABLES {
+        let bytes = match random.range(0, 19) {
+            0..=9 => encode(&table(random, Shape::Small)),
+            10..=11 => encode(&table(random, Shape::Long)),
+            12 => encode(&table(random, Shape::Extreme)),
+            _ => damaged(random),
+        };
+        one_table(comparison, random, &bytes)?;
+    }
+    Ok(())
+}
+
+/// Lone callbacks whose costs add up to nearly the largest window.
+fn longest_window(comparison: &mut Comparison, random: &mut Random) -> Outcome {
+    let count = *random.pick(&[1, 2, 16]);
+    let lone = Callback {
+        kind: Kind::Subscription,
+        next: 0,
+        entries: vec![(LARGEST - random.range(0, 2)) / count],
+        period: LARGEST,
+        jitter: 0,
+        distance: random.range(1, LARGEST),
+    };
+    let bytes = encode(&Table {
+        budget: 1,
+        period: 1,
+        horizon: 0,
+        callbacks: vec![lone; count as usize],
+    });
+    // The analyser's work grows with the square of the count.
+    if random.chance(100 / count) {
+        one_table(comparison, random, &bytes)?;
+    }
+    Ok(())
+}
+
+/// A table that the analyser takes, with its window and row.
+fn accepted(
+    comparison: &mut Comparison,
+    random: &mut Random,
+    shape: Shape,
+) -> Outcome<(Table, u16, Vec<u16>)> {
+    loop {
+        let drawn = table(random, shape);
+        if let Some((window, row)) = one_table(comparison, random, &encode(&drawn))? {
+            return Ok((drawn, window, row));
+        }
+    }
+}
+
+/// A start, and then the ticks one after the other.
+fn play(
+    comparison: &mut Comparison,
+    random: &mut Random,
+    table: &Table,
+    offers: impl Iterator<Item = Offer>,
+) -> Outcome {
+    let mut state = comparison.start(&encode(table), &noise(random, LENGTH))?;
+    for offer in offers {
+        state = comparison.tick(&state, offer)?;
+        comparison.totals.ticks += 1;
+    }
+    comparison.totals.histories += 1;
+    Ok(())
+}
+
+fn offered(tick: &Tick) -> Offer {
+    Offer {
+        mask: tick.mask,
+        supplied: tick.supplied.into(),
+        cost: tick.cost as u32,
+    }
+}
+
+/// Histories within the curves; their replies, and the library's row, are
+/// held to the conclusions of demand 3 too.
+fn history_within(comparison: &mut Comparison, random: &mut Random) -> Outcome {
+    for (shape, length) in [(Shape::Small, 600), (Shape::Small, 600), (Shape::Long, 800)] {
+        let (table, window, row) = accepted(comparison, random, shape)?;
+        let window = u64::from(window);
+        let style = match random.range(0, 3) {
+            0 => Style::greedy(&table),
+            1 => Style::phased(random, &table, window),
+            2 => Style::resting(random, &table, window),
+            _ => Style::loose(random, &table, window),
+        };
+        let history = within(random, &table, &style, length);
+        play(
+            comparison,
+            random,
+            &table,
+            history.ticks.iter().map(offered),
+        )?;
+        let bounds: Vec<u64> = row.iter().map(|&bound| bound.into()).collect();
+        conclusions(&table, &bounds, &history)
+            .map_err(|violation| format!("{violation:?}\ntable {}", hex(&encode(&table))))?;
+    }
+    Ok(())
+}
+
+/// Floods, stray bits, costs out of range, any byte for supplied.
+fn history_outside(comparison: &mut Comparison, random: &mut Random) -> Outcome {
+    for length in [300, 900, 1_800] {
+        let shape = any_shape(random);
+        let table = table(random, shape);
+        let strange = *random.pick(&[0, 2, 30]);
+        let mut offers = Vec::new();
+        for tick in outside(random, &table, length) {
+            let mut offer = offered(&tick);
+            if random.chance(strange) {
+                offer.cost = *random.pick(&COSTS);
+            }
+            if random.chance(strange) {
+                offer.mask ^= 1 << random.range(0, 15);
+            }
+            if offer.supplied == 1 {
+                offer.supplied = *random.pick(&SUPPLIES[1..]);
+            }
+            offers.push(offer);
+        }
+        play(comparison, random, &table, offers.into_iter())?;
+    }
+    Ok(())
+}
+
+fn heads(table: &Table) -> u16 {
+    let heads = (1..=table.count()).filter(|&index| table.is_head(index));
+    heads.map(bit).sum()
+}
+
+/// An offer that is mostly in range.
+fn any_offer(random: &mut Random, table: &Table) -> Offer {
+    let heads = heads(table);
+    Offer {
+        mask: random.bits() as u16 & if random.chance(90) { heads } else { u16::MAX },
+        supplied: *random.pick(&[0, 1, 1, 1, 255]),
+        cost: *random.pick(&[1, 1, 2, 60_000, 60_001]),
+    }
+}
+
+/// States written at will, sound or with a fault, and a few ticks on each.
+fn disturbed(comparison: &mut Comparison, random: &mut Random) -> Outcome {
+    for _ in 0..DISTURBED {
+        let shape = any_shape(random);
+        let table = table(random, shape);
+        let mut state = sound(random, &table);
+        if random.chance(50) {
+            spoil(random, &table, &mut state);
+        }
+        let mut lent = pack(&state).to_vec();
+        for _ in 0..4 {
+            let offer = any_offer(random, &table);
+            lent = comparison.tick(&lent, offer)?;
+            comparison.totals.ticks += 1;
+        }
+    }
+    Ok(())
+}
+
+/// A state without faults: fresh, in the midst of a history, or drawn.
+fn any_state(random: &mut Random) -> (Table, Vec<u8>) {
+    let shape = any_shape(random);
+    let table = table(random, shape);
+    let mut state = sim::machine::start(&encode(&table)).state;
+    match random.range(0, 5) {
+        0 => {}
+        1..=3 => {
+            let length = random.range(1, 60);
+            for tick in outside(random, &table, length) {
+                state = state.tick(tick).state;
+            }
+        }
+        _ => state = sound(random, &table),
+    }
+    (table, pack(&state).to_vec())
+}
+
+/// Every byte of a state changed by itself, then several at once.
+fn damaged_state(comparison: &mut Comparison, random: &mut Random) -> Outcome {
+    let (table, state) = any_state(random);
+    let offer = any_offer(random, &table);
+    for at in 0..LENGTH {
+        let was = state[at];
+        let others = [
+            0,
+            1,
+            255,
+            was ^ 0x80,
+            was.wrapping_add(1),
+            random.bits() as u8,
+        ];
+        for value in others.into_iter().filter(|&value| value != was) {
+            let mut lent = state.clone();
+            lent[at] = value;
+            comparison.tick(&lent, offer)?;
+            comparison.totals.damaged += 1;
+        }
+    }
+    for _ in 0..SCATTERED {
+        let mut lent = state.clone();
+        let from = *random.pick(&[0, 16, 528, 560, 624]);
+        for _ in 0..random.range(2, 4) {
+            lent[random.range(from, LENGTH as u64 - 1) as usize] = *random.pick(&[0, 1, 2, 255]);
+        }
+        comparison.tick(&lent, offer)?;
+        comparison.totals.damaged += 1;
+    }
+    Ok(())
+}
+
+/// Each bit of the mask with each cost and each byte for supplied, on one state.
+fn offers(comparison: &mut Comparison, random: &mut Random) -> Outcome {
+    let (table, state) = any_state(random);
+    let single = (0..16).map(|place| 1 << place);
+    for mask in single.chain([0, u16::MAX, heads(&table), !heads(&table)]) {
+        for cost in COSTS {
+            let supplied = *random.pick(&SUPPLIES);
+            let offer = Offer {
+                mask,
+                supplied,
+                cost,
+            };
+            comparison.tick(&state, offer)?;
+            comparison.totals.ticks += 1;
+        }
+    }
+    Ok(())
+}
+
+/// Wrong lengths of the state, at a start and at a tick, with tables that
+/// the reader takes and others; and a table cut short or too long.
+fn lengths(comparison: &mut Comparison, random: &mut Random) -> Outcome {
+    let (table, state) = any_state(random);
+    let bytes = encode(&table);
+    let refused = damaged(random);
+    let drawn = random.range(0, 1_300) as usize;
+    for length in LENGTHS.into_iter().chain([drawn]) {
+        let mut lent = state.clone();
+        lent.resize(length, 0);
+        comparison.start(&bytes, &lent)?;
+        comparison.start(&refused, &lent)?;
+        let offer = any_offer(random, &table);
+        comparison.tick(&lent, offer)?;
+        comparison.totals.lengths += 3;
+    }
+    for change in (-40..=40).filter(|&change| change != 0) {
+        let mut other = bytes.clone();
+        other.resize(bytes.len().saturating_add_signed(change), 0);
+        comparison.read(&other)?;
+        comparison.start(&other, &noise(random, LENGTH))?;
+        comparison.totals.lengths += 2;
+    }
+    Ok(())
+}

@@ -1,0 +1,232 @@
+//! One call of the library beside the simulator's: results, lent bytes and
+//! guards compared, and what was compared counted.
+
+use crate::fence::Fence;
+use crate::layout::{pack, unpack, LENGTH};
+use library::{
+    cuorfelt_analyse, cuorfelt_read, cuorfelt_start, cuorfelt_tick, Refusal, Reply, Sheet,
+};
+use sim::machine::{start, Answer, Tick};
+use sim::sheet::analyse;
+use sim::table::read;
+use sim::text::hex;
+
+/// A difference, in words.
+pub type Outcome<T = ()> = Result<T, String>;
+
+/// The library's functions that refuse.
+#[derive(Clone, Copy)]
+pub enum Function {
+    Read,
+    Analyse,
+    Start,
+    Tick,
+}
+
+#[derive(Default)]
+pub struct Totals {
+    pub tables: u64,
+    pub accepted: u64,
+    pub histories: u64,
+    pub ticks: u64,
+    pub damaged: u64,
+    pub lengths: u64,
+    /// By function, then by number: how often it was refused so.
+    pub refused: [[u64; 30]; 4],
+}
+
+/// What is offered to a tick, in the library's widths.
+#[derive(Clone, Copy, Debug)]
+pub struct Offer {
+    pub mask: u16,
+    pub supplied: u8,
+    pub cost: u32,
+}
+
+pub struct Comparison {
+    pub totals: Totals,
+    table: Fence,
+    row: Fence,
+    state: Fence,
+}
+
+fn same<T: PartialEq + std::fmt::Debug>(what: &str, library: T, simulator: T) -> Outcome {
+    if library == simulator {
+        return Ok(());
+    }
+    Err(format!(
+        "{what}: library {library:?}, simulator {simulator:?}"
+    ))
+}
+
+/// Slices of one length, compared place by place, counted from 0.
+fn same_all<T: PartialEq + std::fmt::Debug>(what: &str, library: &[T], simulator: &[T]) -> Outcome {
+    match library.iter().zip(simulator).position(|(a, b)| a != b) {
+        None => same(what, library.len(), simulator.len()),
+        Some(at) => same(&format!("{what} at {at}"), &library[at], &simulator[at]),
+    }
+}
+
+fn kept(what: &str, fence: &Fence) -> Outcome {
+    if fence.guarded() {
+        Ok(())
+    } else {
+        Err(format!("{what}: a byte beside the lent ones was written"))
+    }
+}
+
+fn words(bytes: &[u8]) -> Vec<u16> {
+    let pairs = bytes.chunks_exact(2);
+    pairs.map(|p| u16::from_le_bytes([p[0], p[1]])).collect()
+}
+
+fn refusal(simulator: Option<sim::table::Refusal>) -> Refusal {
+    match simulator {
+        None => Refusal {
+            number: 0,
+            index: 0,
+        },
+        Some(sim::table::Refusal { number, index }) => Refusal { number, index },
+    }
+}
+
+/// The reply that the simulator gives to a tick on lent bytes, and the bytes
+/// after it.
+fn expected_tick(lent: &[u8], offer: Offer) -> (Reply, Vec<u8>) {
+    let refused = |number, index| Reply {
+        number,
+        index,
+        ..Reply::default()
+    };
+    let Some(state) = unpack(lent) else {
+        return (refused(29, 0), lent.to_vec());
+    };
+    let step = state.tick(Tick {
+        mask: offer.mask,
+        supplied: offer.supplied != 0,
+        cost: offer.cost.into(),
+    });
+    let (answer, callback, instance) = match step.reply.outcome {
+        Err(r) => return (refused(r.number, r.index), lent.to_vec()),
+        Ok(Answer::NoSupply) => (1, 0, 0),
+        Ok(Answer::Idle) => (2, 0, 0),
+        Ok(Answer::Ran { callback, instance }) => (3, callback, instance),
+        Ok(Answer::Finished { callback, instance }) => (4, callback, instance),
+    };
+    let reply = Reply {
+        instance: instance as u32,
+        number: 0,
+        index: 0,
+        answer,
+        callback: callback as u8,
+        started: step.reply.started.into(),
+        polled: step.reply.polled.into(),
+        gathered: step.reply.gathered as u8,
+    };
+    (reply, pack(&step.state).to_vec())
+}
+
+impl Comparison {
+    pub fn new() -> Comparison {
+        Comparison {
+            totals: Totals::default(),
+            table: Fence::new(),
+            row: Fence::new(),
+            state: Fence::new(),
+        }
+    }
+
+    fn count(&mut self, function: Function, number: u8) {
+        self.totals.refused[function as usize][usize::from(number)] += 1;
+    }
+
+    /// Whether the lent table is as it was.
+    fn table_kept(&self, bytes: &[u8]) -> Outcome {
+        same_all("table", self.table.bytes(), bytes)?;
+        kept("table", &self.table)
+    }
+
+    pub fn read(&mut self, bytes: &[u8]) -> Outcome {
+        self.table.lend(bytes, 1);
+        // SAFETY: the fence lends this many bytes.
+        let got = unsafe { cuorfelt_read(self.table.pointer(), bytes.len()) };
+        self.count(Function::Read, got.number);
+        same("reading", got, refusal(read(bytes).err()))?;
+        self.table_kept(bytes)
+    }
+
+    /// The sheet in a row that holds `row` before; gives the window and the
+    /// row after.
+    pub fn analyse(&mut self, bytes: &[u8], row: &[u16]) -> Outcome<(u16, Vec<u16>)> {
+        let mut wanted = row.to_vec();
+        let sheet = match analyse(bytes, &mut wanted) {
+            Ok(window) => Sheet {
+                window: window as u16,
+                number: 0,
+                index: 0,
+            },
+            Err(sim::table::Refusal { number, index }) => Sheet {
+                window: 0,
+                number,
+                index,
+            },
+        };
+        self.table.lend(bytes, 1);
+        let flat: Vec<u8> = row.iter().flat_map(|place| place.to_le_bytes()).collect();
+        self.row.lend(&flat, 2);
+        let lent = self.row.pointer().cast();
+        // SAFETY: the fences lend this many bytes and places, the row at an even address.
+        let got = unsafe { cuorfelt_analyse(self.table.pointer(), bytes.len(), lent, row.len()) };
+        self.count(Function::Analyse, got.number);
+        same("sheet", got, sheet)?;
+        let after = words(self.row.bytes());
+        same_all("row", &after, &wanted)?;
+        kept("row", &self.row)?;
+        self.table_kept(bytes)?;
+        Ok((got.window, after))
+    }
+
+    /// A start into bytes that hold `lent` before; gives the bytes after.
+    pub fn start(&mut self, bytes: &[u8], lent: &[u8]) -> Outcome<Vec<u8>> {
+        let begun = start(bytes);
+        let fits = lent.len() == LENGTH;
+        let (wanted, after) = match begun.refusal {
+            _ if !fits => (
+                Refusal {
+                    number: 29,
+                    index: 0,
+                },
+                lent.to_vec(),
+            ),
+            None => (refusal(None), pack(&begun.state).to_vec()),
+            refused => (refusal(refused), lent.to_vec()),
+        };
+        self.table.lend(bytes, 1);
+        self.state.lend(lent, 1);
+        let state = self.state.pointer();
+        // SAFETY: the fences lend this many bytes.
+        let got = unsafe { cuorfelt_start(self.table.pointer(), bytes.len(), state, lent.len()) };
+        self.count(Function::Start, got.number);
+        same("start", got, wanted)?;
+        same_all("state", self.state.bytes(), &after)?;
+        kept("state", &self.state)?;
+        self.table_kept(bytes)?;
+        Ok(after)
+    }
+
+    /// A tick on bytes that hold `lent` before; gives the bytes after.
+    pub fn tick(&mut self, lent: &[u8], offer: Offer) -> Outcome<Vec<u8>> {
+        let (wanted, after) = expected_tick(lent, offer);
+        self.state.lend(lent, 1);
+        let state = self.state.pointer();
+        // SAFETY: the fence lends this many bytes.
+        let got =
+            unsafe { cuorfelt_tick(state, lent.len(), offer.mask, offer.supplied, offer.cost) };
+        self.count(Function::Tick, got.number);
+        same("reply", got, wanted)
+            .and_then(|()| same_all("state", self.state.bytes(), &after))
+            .and_then(|()| kept("state", &self.state))
+            .map_err(|difference| format!("{difference}\n{offer:?}\nstate {}", hex(lent)))?;
+        Ok(after)
+    }
+}

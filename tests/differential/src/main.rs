@@ -1,0 +1,126 @@
+//! The proved library compared with the simulator; README.md describes it.
+
+mod cases;
+mod compare;
+mod fence;
+mod layout;
+
+use compare::{Comparison, Function, Outcome, Totals};
+use std::io::Write;
+use std::time::{SystemTime, UNIX_EPOCH};
+
+const USAGE: &str = "usage:
+  differential gate          fixed seeds
+  differential seed SEED     one seed
+  differential soak [SEED]   seeds from SEED on, or from a random one, until stopped
+";
+
+/// The gate's seeds.
+const GATE: std::ops::Range<u64> = 1..211;
+/// What a gate run must have compared.
+const LEAST_TABLES: u64 = 20_000;
+const LEAST_TICKS: u64 = 1_000_000;
+
+fn main() {
+    let words: Vec<String> = std::env::args().skip(1).collect();
+    let words: Vec<&str> = words.iter().map(String::as_str).collect();
+    let outcome = match words[..] {
+        ["gate"] => gate(),
+        ["seed", seed] => number(seed).and_then(one),
+        ["soak"] => soak(random_seed()),
+        ["soak", seed] => number(seed).and_then(soak),
+        _ => {
+            eprint!("{USAGE}");
+            std::process::exit(2);
+        }
+    };
+    if let Err(what) = outcome {
+        eprintln!("difference: {what}");
+        std::process::exit(1);
+    }
+}
+
+fn number(word: &str) -> Outcome<u64> {
+    word.parse().map_err(|_| format!("not a number: {word}"))
+}
+
+fn random_seed() -> u64 {
+    let now = SystemTime::now().duration_since(UNIX_EPOCH);
+    now.map_or(1, |time| time.as_nanos() as u64)
+}
+
+/// A comparison, once the state's length is found to be the documented one.
+fn begun() -> Outcome<Comparison> {
+    fence::tell_faults();
+    // SAFETY: takes nothing.
+    match unsafe { library::cuorfelt_state_length() } {
+        layout::LENGTH => Ok(Comparison::new()),
+        other => Err(format!("the state's length is {other}")),
+    }
+}
+
+fn gate() -> Outcome {
+    let mut comparison = begun()?;
+    cases::edges(&mut comparison)?;
+    for seed in GATE {
+        cases::run(&mut comparison, seed)?;
+    }
+    complete(&comparison.totals)?;
+    println!("{}: no difference", summary(&comparison.totals));
+    Ok(())
+}
+
+/// Whether a gate run was large enough and met every refusal.
+fn complete(totals: &Totals) -> Outcome {
+    if totals.tables < LEAST_TABLES || totals.ticks < LEAST_TICKS {
+        return Err(format!("too few compared: {}", summary(totals)));
+    }
+    let numbers = [
+        (Function::Read, (0..=14).collect::<Vec<usize>>()),
+        (Function::Analyse, (0..=17).collect()),
+        (Function::Start, (0..=14).chain([29]).collect()),
+        (
+            Function::Tick,
+            [0].into_iter().chain(18..=21).chain([29]).collect(),
+        ),
+    ];
+    for (function, numbers) in numbers {
+        let met = totals.refused[function as usize];
+        if let Some(number) = numbers.into_iter().find(|&number| met[number] == 0) {
+            return Err(format!("refusal {number} was never met"));
+        }
+    }
+    Ok(())
+}
+
+fn summary(totals: &Totals) -> String {
+    format!(
+        "{} tables ({} with a sheet), {} ticks, {} histories, {} damaged states, {} wrong lengths",
+        totals.tables,
+        totals.accepted,
+        totals.ticks,
+        totals.histories,
+        totals.damaged,
+        totals.lengths
+    )
+}
+
+fn one(seed: u64) -> Outcome {
+    let mut comparison = begun()?;
+    cases::run(&mut comparison, seed)?;
+    println!("{}: no difference", summary(&comparison.totals));
+    Ok(())
+}
+
+fn soak(first: u64) -> Outcome {
+    let mut comparison = begun()?;
+    let mut seed = first;
+    loop {
+        print!("\rseed {seed}: {}", summary(&comparison.totals));
+        std::io::stdout()
+            .flush()
+            .map_err(|error| error.to_string())?;
+        cases::run(&mut comparison, seed)?;
+        seed = seed.wrapping_add(1);
+    }
+}
