@@ -77,10 +77,14 @@ readFault b =
       | false ↦ faultWith (not (eqb (length b) (recordStart (getD b 1 0)))) (not (zeros b 8 8)) (sparesAt b) (tableAt b)
     ]
 
+-- a refusal beside a blank table
+abbrev pub refusedReading : Refusal → Reading
+refusedReading r = record { refusal = r; table = blankTable }
+
 -- the reader: the table, or the refusal beside a blank table
 unfoldable pub readOf : List ℕ → Reading
 readOf b =
     elim (eqb ((readFault b) .number) 0) [
       | true ↦ record { refusal = readFault b; table = tableAt b }
-      | false ↦ record { refusal = readFault b; table = blankTable }
+      | false ↦ refusedReading (readFault b)
     ]

@@ -25,6 +25,12 @@ editionOne = 1
 abbrev pub timer : ℕ
 timer = 1
 
+abbrev pub subscription : ℕ
+subscription = 2
+
+abbrev pub service : ℕ
+service = 3
+
 abbrev pub client : ℕ
 client = 4
 

@@ -20,8 +20,8 @@ abbrev pub within : ℕ → ℕ → ℕ → Bool
 within low high x = leb low x && leb x high
 
 -- 6: "Q zero, Q above P, or P above 60,000"
-unfoldable pub supplyFault : Table → Bool
-supplyFault t = eqb (t .budget) 0 || (ltb (t .period) (t .budget) || ltb Numbers.longest (t .period))
+unfoldable pub supplyFault : ℕ → ℕ → Bool
+supplyFault budget period = eqb budget 0 || (ltb period budget || ltb Numbers.longest period)
 
 -- 10: "m or an entry against the rules, unused entries excepted": m is 1 to 8, entries rise strictly and lie in 1 to 60,000
 unfoldable pub costFault : Callback → Bool
@@ -49,10 +49,9 @@ recordsFrom spares t (suc k) i =
     elim (recordFault (t .count) (callbackAt t i) (has spares i)) [ zero ↦ recordsFrom spares t k (suc i) | suc x ↦ refuse (suc x) (suc i) ]
 
 -- 14: "head: T or J above 60,000, T zero, d not 1 to T; follower: any not zero"
-unfoldable pub arrivalsFault : Table → ℕ → Bool
-arrivalsFault t i =
-    let c : Callback = callbackAt t i in
-    cond (isHead t i)
+unfoldable pub arrivalsFault : Bool → Callback → Bool
+arrivalsFault head c =
+    cond head
     (not (within 1 Numbers.longest (c .period)) || (ltb Numbers.longest (c .jitter) || not (within 1 (c .period) (c .distance))))
     (not (eqb (c .period) 0) || (not (eqb (c .jitter) 0) || not (eqb (c .distance) 0)))
 
@@ -66,7 +65,7 @@ linksFault t =
     lowestRefused Numbers.namedTwice (lowest (λ i. leb 2 (named t i)) (t .count))
     (lowestRefused Numbers.timerNamed (lowest (λ i. leb 1 (named t i) && eqb (kindOf t i) Numbers.timer) (t .count))
     (lowestRefused Numbers.loop (lowest (onLoop t) (t .count))
-    (lowestRefused Numbers.wrongArrivals (lowest (arrivalsFault t) (t .count)) accepted)))
+    (lowestRefused Numbers.wrongArrivals (lowest (λ i. arrivalsFault (isHead t i) (callbackAt t i)) (t .count)) accepted)))
 
 -- 2 to 14
 unfoldable pub faultWith : Bool → Bool → ℕ → Table → Refusal
@@ -75,7 +74,7 @@ faultWith off spare spares t =
     (cond (not (within 1 Numbers.places (t .count))) (refuse Numbers.wrongCount 0)
     (cond off (refuse Numbers.wrongLength 0)
     (cond spare (refuse Numbers.spareNotZero 0)
-    (cond (supplyFault t) (refuse Numbers.wrongSupply 0)
+    (cond (supplyFault (t .budget) (t .period)) (refuse Numbers.wrongSupply 0)
     (cond (ltb Numbers.longest (t .horizon)) (refuse Numbers.wrongHorizon 0)
     (orElse (recordsFrom spares t (t .count) 0) (linksFault t)))))))
 

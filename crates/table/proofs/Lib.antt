@@ -1,0 +1,16 @@
+-- What the functions rest on. NamedLaws: one pass over the records gives the slots named once and twice, and the heads.
+-- PriorityLaws: the kinds' masks, and the first in priority. LoopLaws: a walk along next finds a loop or ends. ChainLaws: the way back to a chain's head.
+-- RulesLaws: one record's rules, and the records in turn. FaultLaws: the refusals in their order. FormatLaws: the bytes, and the reader.
+-- What other crates cite. Passed: what an accepted table has passed. Sound: what holds of every accepted table. Heads: its chains.
+-- Accepted: what an accepted reading says of the bytes and of the table.
+pub mod NamedLaws
+pub mod PriorityLaws
+pub mod LoopLaws
+pub mod ChainLaws
+pub mod RulesLaws
+pub mod FaultLaws
+pub mod FormatLaws
+pub mod Passed
+pub mod Sound
+pub mod Heads
+pub mod Accepted

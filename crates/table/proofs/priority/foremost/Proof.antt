@@ -1,0 +1,69 @@
+-- `table::priority::foremost` meets its contract: the kinds are asked in their order. Assumes nothing.
+use mathlib.Core.Path.{sym, _∙_}
+use Rattle.table.specs.Priority.{foremostIn}
+use Rattle.table.proofs.PriorityLaws.{next-some, next-none}
+use borrow.Author.Needs.{needs}
+use Rattle.table.proofs.priority.foremost.Statement.{statement}
+use Rattle.table.proofs.priority.foremost.Tie as tie
+
+first-index-requires : tie.Need-first-index-requires
+first-index-requires c κs = search needs
+
+returns : tie.Need-returns
+unfolding foremostIn
+returns c =
+    let one = c .before .first-index .ensures in
+    one ∙ sym (next-some _ _ (λ e. c .if1 .taken (one ∙ e)))
+
+first-index-requires-2 : tie.Need-first-index-requires-2
+first-index-requires-2 c κs = search needs
+
+returns-2 : tie.Need-returns-2
+unfolding foremostIn
+returns-2 c =
+    let one = c .before .before .before .before .first-index .ensures in
+    let two = c .before .first-index2 .ensures in
+    two ∙ sym (next-none _ _ (sym one ∙ c .before .before .before .if1 .left) ∙ next-some _ _ (λ e. c .if2 .taken (two ∙ e)))
+
+first-index-requires-3 : tie.Need-first-index-requires-3
+first-index-requires-3 c κs = search needs
+
+returns-3 : tie.Need-returns-3
+unfolding foremostIn
+returns-3 c =
+    let one = c .before .before .before .before .before .before .before .first-index .ensures in
+    let two = c .before .before .before .before .first-index2 .ensures in
+    let three = c .before .first-index3 .ensures in
+    three
+    ∙ sym
+    (next-none _ _ (sym one ∙ c .before .before .before .before .before .before .if1 .left)
+    ∙ next-none _ _ (sym two ∙ c .before .before .before .if2 .left)
+    ∙ next-some _ _ (λ e. c .if3 .taken (three ∙ e)))
+
+first-index-requires-4 : tie.Need-first-index-requires-4
+first-index-requires-4 c κs = search needs
+
+returns-4 : tie.Need-returns-4
+unfolding foremostIn
+returns-4 c =
+    let one = c .before .before .before .before .before .before .before .before .before .first-index .ensures in
+    let two = c .before .before .before .before .before .before .first-index2 .ensures in
+    let three = c .before .before .before .first-index3 .ensures in
+    c .first-index4 .ensures
+    ∙ sym
+    (next-none _ _ (sym one ∙ c .before .before .before .before .before .before .before .before .if1 .left)
+    ∙ next-none _ _ (sym two ∙ c .before .before .before .before .before .if2 .left)
+    ∙ next-none _ _ (sym three ∙ c .before .before .if3 .left))
+
+pub foremost-spec : {M : Type 1} → statement M
+foremost-spec =
+    tie.close
+    (tie.spec
+    first-index-requires
+    returns
+    first-index-requires-2
+    returns-2
+    first-index-requires-3
+    returns-3
+    first-index-requires-4
+    returns-4)
