@@ -8,11 +8,11 @@ use mathlib.Core.List.{List}
 use Prim.Native.Nat.{ℕ, suc, _+_, _≤_, _<_}
 use lib.ListN.{length, getD}
 use Rattle.table.specs.declared.Table.{Table}
-use Rattle.table.specs.Values.{accepted}
 use Rattle.table.specs.Links.{headOf}
 use Rattle.table.specs.Format.{tableAt}
+use Rattle.executor.specs.declared.Answer.{Answer}
+use Rattle.executor.specs.declared.Reply.the-variants.{Answered}
 use Rattle.executor.specs.Numbers.{mostTicks}
-use Rattle.executor.specs.Reply.{refusalOf}
 use Rattle.executor.specs.Start.{startOf}
 use Rattle.sheet.specs.Sheet.{analysisFault, rowOf}
 use Rattle.guarantee.specs.History.{Tick, Said, replies, saidAt, activations, activation, instanceStarts, completion}
@@ -20,8 +20,8 @@ use Rattle.guarantee.specs.Within.{WithinCurves}
 
 -- what is promised of a table, a row of bounds, a list of ticks and its replies
 pub record Kept (tb : Table) (row : List ℕ) (h : List Tick) (r : List Said) : Type 0 where
-  -- "no tick is refused"
-  pub answered : (t : ℕ) → t < length h → refusalOf ((saidAt r t) .reply) ≡ accepted
+  -- no tick is refused: each "answers with one of four"
+  pub answered : (t : ℕ) → t < length h → (a : Answer) × ((saidAt r t) .reply ≡ Answered a)
   -- "no instance starts before its activation": it "starts before its activation if i has fewer than k activations at times up to t"
   pub started : (i k t : ℕ) → i < tb .count → t < length h → instanceStarts r i k t → k ≤ activations tb h r i (suc t)
   -- "with a bound R, and the k-th activation of the head at time v, wherever v + R is at most N the k-th completion is there, at time v + R or earlier"

@@ -1,8 +1,8 @@
 -- The words of document 01, 'A history', read from a list of ticks and the list of their replies alone.
 -- Callbacks are slots here (from 0); instances, activations and completions are counted from 1; times run from tick 0.
-use mathlib.Core.Bool.{Bool, true, false, cond, _&&_}
+use mathlib.Core.Bool.{Bool, false, cond, _&&_}
 use mathlib.Core.List.{List, [], _∷_}
-use Prim.Native.Nat.{ℕ, zero, suc, _+_, _*_}
+use Prim.Native.Nat.{ℕ, zero, suc, _+_}
 use lib.Dec.{T, eqb}
 use lib.ListN.{getD}
 use mathlib.Core.Path.{_≡_}

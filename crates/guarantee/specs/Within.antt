@@ -1,10 +1,10 @@
 -- "A history is within the curves if .." (document 01, 'Curves'): five conditions on a list h of N ticks with its replies r.
-use Prim.Native.Nat.{ℕ, suc, _+_, _*_, _≤_, _<_}
+use Prim.Native.Nat.{ℕ, _+_, _≤_, _<_}
 use mathlib.Core.List.{List}
 use lib.Dec.{T}
 use lib.ListN.{length}
 use Rattle.masks.specs.Mask.{has}
-use Rattle.curves.specs.Sum.{sum, given}
+use Rattle.curves.specs.Sum.{given}
 use Rattle.table.specs.declared.Table.{Table}
 use Rattle.table.specs.Links.{isHead}
 use Rattle.executor.specs.Numbers.{largestCost}

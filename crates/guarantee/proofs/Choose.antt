@@ -1,0 +1,135 @@
+-- What step 3 gives: somebody is chosen wherever somebody waits; the chosen one waits, and is in the cache then if it is polled;
+-- and the cache holds polled callbacks that wait, before and after. Nothing here asks who is polled.
+--   foremost-hit, foremost-some   the first in priority that passes
+--   Cached                        what a cache holds
+--   Chosen, chooses               what a choice gives
+use mathlib.Core.Path.{_≡_, refl, subst, sym, _∙_}
+use mathlib.Core.Logic.{_⊎_, inl, inr, _≢_}
+use mathlib.Core.Bool.{Bool, true, false, not, _&&_}
+use mathlib.Core.List.{List}
+use Prim.Native.Nat.{ℕ, zero, suc, _+_, _≤_, _<_}
+use native.Mathlib.Nat.{eq-or-lt-of-le}
+use native.Mathlib.Omega.{arith}
+use lib.Dec.{T, T-not, eqb, ltb, ltb→lt, lt→ltb, eqb-refl}
+use lib.ListN.{getD}
+use Rattle.masks.specs.Mask.{has}
+use Rattle.masks.proofs.Gather.{gather-has, gather-in}
+use Rattle.curves.specs.Least.{lowest}
+use Rattle.curves.proofs.LeastLaws.{lowest-hit, lowest-some}
+use Rattle.table.specs.declared.Table.{Table}
+use Rattle.table.specs.Numbers.{timer, client}
+use Rattle.table.specs.Values.{kindOf}
+use Rattle.table.specs.Priority.{foremostFrom, foremost}
+use Rattle.executor.specs.declared.Choice.{Choice}
+use Rattle.executor.specs.State.{isPolled}
+use Rattle.executor.specs.Effect.{waits, choice, gatheredOf, pollingPoint, choose}
+
+pub and-both : (a b : Bool) → T (a && b) → T a × T b
+and-both true b t = (tt, t)
+and-both false b t = absurd t
+
+pub both-and : (a b : Bool) → T a → T b → T (a && b)
+both-and true b t r = r
+both-and false b t r = t
+
+module _ (t : Table) where
+  -- the kinds are those of document 01
+  abbrev pub Kinds : Type 0
+  Kinds = (i : ℕ) → i < t .count → (timer ≤ kindOf t i) × (kindOf t i ≤ client)
+
+  -- whoever is found passes
+  foremost-from-hit : (p : ℕ → Bool) (f kind i : ℕ) → foremostFrom t p f kind ≡ suc i → (i < t .count) × T (p i)
+  unfolding foremostFrom
+  foremost-from-hit p zero kind i e = absurd (omega arith)
+  foremost-from-hit p (suc f) kind i e = go (lowest (λ i. eqb (kindOf t i) kind && p i) (t .count)) refl e (foremost-from-hit p f (suc kind) i)
+    where
+      go : (x : ℕ) → lowest (λ i. eqb (kindOf t i) kind && p i) (t .count) ≡ x
+          → elim x [ zero ↦ foremostFrom t p f (suc kind) | suc i ↦ suc i ] ≡ suc i
+          → (foremostFrom t p f (suc kind) ≡ suc i → (i < t .count) × T (p i)) → (i < t .count) × T (p i)
+      go zero q x r = r x
+      go (suc j) q x r =
+          let a = lowest-hit (λ i. eqb (kindOf t i) kind && p i) (t .count) i (q ∙ x) in
+          (a .0, and-both (eqb (kindOf t i) kind) (p i) (a .1) .1)
+
+  -- where one of the kinds looked at passes, one is found
+  foremost-from-some : (p : ℕ → Bool) (f kind j : ℕ) → j < t .count → kind ≤ kindOf t j → kindOf t j < kind + f → T (p j)
+      → foremostFrom t p f kind ≢ 0
+  unfolding foremostFrom
+  foremost-from-some p zero kind j l a b h = absurd (omega arith)
+  foremost-from-some p (suc f) kind j l a b h =
+      go (lowest (λ i. eqb (kindOf t i) kind && p i) (t .count)) refl (eq-or-lt-of-le a) (λ m. foremost-from-some p f (suc kind) j l m (omega arith) h)
+    where
+      go : (x : ℕ) → lowest (λ i. eqb (kindOf t i) kind && p i) (t .count) ≡ x → (kind ≡ kindOf t j) ⊎ (kind < kindOf t j)
+          → (kind < kindOf t j → foremostFrom t p f (suc kind) ≢ 0) → _≢_ {A = ℕ} (elim x [ zero ↦ foremostFrom t p f (suc kind) | suc i ↦ suc i ]) 0
+      go (suc i) q c r = omega arith
+      go zero q (inr m) r = r m
+      go zero q (inl e) r = absurd (lowest-some (λ i. eqb (kindOf t i) kind && p i) (t .count) j l here q)
+        where
+          here : T (eqb (kindOf t j) kind && p j)
+          here = both-and (eqb (kindOf t j) kind) (p j) (subst (λ (x : ℕ). T (eqb (kindOf t j) x)) (sym e) (eqb-refl (kindOf t j))) h
+
+  pub foremost-hit : (p : ℕ → Bool) (i : ℕ) → foremost t p ≡ suc i → (i < t .count) × T (p i)
+  foremost-hit p i e = foremost-from-hit p client timer i e
+
+  pub foremost-some : Kinds → (p : ℕ → Bool) (j : ℕ) → j < t .count → T (p j) → foremost t p ≢ 0
+  foremost-some k p j l h = foremost-from-some p client timer j l (k j l .0) (omega (arith, k j l .1)) h
+
+  -- every callback in the cache is one of the table's, waits, and is polled
+  abbrev pub Cached : ℕ → List ℕ → Type 0
+  Cached c ws = (i : ℕ) → T (has c i) → (i < t .count) × (0 < getD ws i 0) × T (isPolled t i)
+
+  pub record Chosen (ws : List ℕ) (r : Choice) : Type 0 where
+    pub kept : Cached (r .cache) ws
+    pub waiting : (i : ℕ) → r .chosen ≡ suc i → (i < t .count) × (0 < getD ws i 0) × (T (isPolled t i) → T (has (r .cache) i))
+    pub some : (j : ℕ) → j < t .count → 0 < getD ws j 0 → r .chosen ≢ 0
+
+  -- whom a polling point gathers
+  gathered-cached : (ws : List ℕ) → Cached (gatheredOf t ws) ws
+  unfolding gatheredOf
+  gathered-cached ws i h =
+      let a = and-both (ltb i (t .count)) (isPolled t i && waits ws i) (subst T (gather-has (λ i. isPolled t i && waits ws i) (t .count) i) h) in
+      let b = and-both (isPolled t i) (waits ws i) (a .1) in
+      (ltb→lt i (t .count) (a .0), ltb→lt 0 (getD ws i 0) (b .1), b .0)
+
+  gathered-some : (ws : List ℕ) (j : ℕ) → j < t .count → T (isPolled t j) → 0 < getD ws j 0 → T (has (gatheredOf t ws) j)
+  unfolding gatheredOf
+  gathered-some ws j l h w =
+      subst T (sym (gather-in (λ i. isPolled t i && waits ws i) (t .count) j l)) (both-and (isPolled t j) (waits ws j) h (lt→ltb 0 (getD ws j 0) w))
+
+  pub chooses : Kinds → (c : ℕ) (ws : List ℕ) → Cached c ws → Chosen ws (choose t c ws)
+  unfolding choose
+  chooses kinds c ws good = go (foremost t unpolled) refl (foremost t (has c)) refl
+    where
+      unpolled : ℕ → Bool
+      unpolled i = not (isPolled t i) && waits ws i
+
+      -- where no unpolled callback waits, a poll finds whoever waits
+      found : (j : ℕ) → j < t .count → 0 < getD ws j 0 → foremost t unpolled ≡ 0 → (b : Bool) → isPolled t j ≡ b → foremost t (has (gatheredOf t ws)) ≢ 0
+      found j l w z true q = foremost-some kinds (has (gatheredOf t ws)) j l (gathered-some ws j l (subst T (sym q) tt) w)
+      found j l w z false q =
+          absurd (foremost-some kinds unpolled j l (both-and (not (isPolled t j)) (waits ws j) (subst (λ (b : Bool). T (not b)) (sym q) tt) (lt→ltb 0 (getD ws j 0) w)) z)
+
+      go : (x : ℕ) → foremost t unpolled ≡ x → (y : ℕ) → foremost t (has c) ≡ y
+          → Chosen ws (elim x [
+            | suc i ↦ choice (suc i) c false 0
+            | zero ↦ elim y [ suc i ↦ choice (suc i) c false 0 | zero ↦ pollingPoint t (gatheredOf t ws) ]
+          ])
+      go (suc i) e y f = record {
+        kept = good;
+        waiting = λ j q. (
+            let a = foremost-hit unpolled j (e ∙ q) in
+            let b = and-both (not (isPolled t j)) (waits ws j) (a .1) in
+            (a .0, ltb→lt 0 (getD ws j 0) (b .1), λ p. absurd (T-not (isPolled t j) (b .0) p))
+            );
+        some = λ j l h. omega arith;
+      }
+      go zero e (suc i) f = record {
+        kept = good;
+        waiting = λ j q. (let a = foremost-hit (has c) j (f ∙ q) in (a .0, good j (a .1) .1, λ p. a .1));
+        some = λ j l h. omega arith;
+      }
+      go zero e zero f = record {
+        kept = gathered-cached ws;
+        waiting = λ j q. (let a = foremost-hit (has (gatheredOf t ws)) j q in (a .0, gathered-cached ws j (a .1) .1, λ p. a .1));
+        some = λ j l h. found j l h e (isPolled t j) refl;
+      }
