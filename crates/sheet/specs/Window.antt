@@ -1,6 +1,6 @@
 -- Window, finish and bound over the curves of n callbacks: arrivals a, costs e, supply s, horizon H (document 01, 'The sheet').
 use mathlib.Core.Bool.{Bool}
-use Prim.Native.Nat.{ℕ, suc, _-_}
+use Prim.Native.Nat.{ℕ, _-_}
 use lib.Dec.{leb}
 use Rattle.curves.specs.Sum.{sum}
 use Rattle.curves.specs.Least.{least, largest}

@@ -7,6 +7,21 @@ use lib.Dec.{T, eqb, eqb→eq}
 use Rattle.curves.specs.Arrivals.{ceiling, arrivals}
 use Rattle.curves.specs.Cost.{cost}
 use Rattle.curves.specs.Supply.{supply}
+use Rattle.curves.specs.Sum.{sum}
+use Rattle.curves.specs.Least.{least, lowestFrom, largest}
+use Rattle.curves.specs.Every.{every}
+use Rattle.curves.specs.Walk.{walk}
+use Rattle.curves.specs.Demand.{limit}
+use Rattle.masks.specs.Mask.{has, gather}
+use Rattle.lent.specs.Bytes.{zeros}
+use Rattle.lent.specs.Over.{over}
+use Rattle.table.specs.Values.{horizonOf}
+use Rattle.table.specs.Links.{linked, named, isHead, feeder, headFrom, headOf, onLoop}
+use Rattle.table.specs.Rules.{supplyFault, costFault, unusedFault, recordFault, recordsFrom, arrivalsFault, linksFault, faultWith}
+use Rattle.table.specs.Format.{recordAt, spareAt, recordsTo, tableAt, sparesAt, readFault}
+use Rattle.table.specs.Written.{words, headerBytes, recordBytes, recordsBytes, written}
+use Rattle.sheet.specs.Window.{covered, coveredFor, window, finish, bound}
+use Rattle.sheet.specs.Sheet.{arrivalsOf, costOf, supplyOf, windowOf, boundOf, tooManyAt, sheetFault, analysisFault, sheetOf, boundsTo, rowOf}
 use Rattle.worked.specs.Worked.{Case, table, same, agree, Reckoned}
 
 both : (b x : Bool) → T (elim b [ true ↦ x | false ↦ false ]) → T b × T x
@@ -30,7 +45,7 @@ each {c} t (List·Memᴰ·head {x = x} {xs = cs} e) =
 each {c} t (List·Memᴰ·tail {x = x} {xs = cs} i) = each (both (same (x .reckoned) (x .paper)) (agree cs) t .1) i
 
 passes : T (agree table)
-unfolding table agree same supply arrivals ceiling cost
+unfolding table agree same supply arrivals ceiling cost sum least lowestFrom largest every walk limit has gather words headerBytes recordBytes recordsBytes written zeros recordAt spareAt recordsTo tableAt sparesAt readFault supplyFault costFault unusedFault recordFault recordsFrom arrivalsFault linksFault faultWith linked named isHead feeder headFrom headOf onLoop horizonOf over covered coveredFor window finish bound arrivalsOf costOf supplyOf windowOf boundOf tooManyAt sheetFault analysisFault sheetOf boundsTo rowOf
 passes = tt
 
 pub reckoned : Reckoned

@@ -2,12 +2,14 @@
 -- A row has the numbers that the definitions give for a case and the numbers that the paper states, in the paper's order.
 use mathlib.Core.Path.{_≡_}
 use mathlib.Core.Bool.{Bool, true, false}
-use mathlib.Core.List.{List, [], _∷_, map, List·Memᴰ}
+use mathlib.Core.List.{List, [], _∷_, _++_, map, List·Memᴰ}
 use Prim.Native.Nat.{ℕ}
 use lib.Dec.{eqb}
 use Rattle.curves.specs.Arrivals.{arrivals}
 use Rattle.curves.specs.Cost.{cost}
 use Rattle.curves.specs.Supply.{supply}
+use Rattle.table.specs.declared.Table.{Table}
+use Rattle.worked.specs.Sheets.{tableOf, fullSupply, callback, timer, sheet, bounds, arrivalsInWindow}
 
 -- a case of the paper, P1 having the number 1
 pub record Case : Type 0 where
@@ -26,6 +28,20 @@ table =
     ∷ P 2 (map (arrivals 10 15 2) (0 ∷ 1 ∷ 2 ∷ 3 ∷ 5 ∷ 6 ∷ 12 ∷ [])) (0 ∷ 1 ∷ 1 ∷ 2 ∷ 2 ∷ 3 ∷ 3 ∷ [])
     -- entries 4, 6: E
     ∷ P 3 (map (cost (4 ∷ 6 ∷ [])) (3 ∷ [])) (10 ∷ [])
+    -- full supply, P2's arrivals, entry 4: W, accepted, the bound
+    ∷ P 4 (let t : Table = fullSupply (callback 10 15 2 (4 ∷ []) ∷ []) in sheet t ++ bounds t) (12 ∷ 0 ∷ 0 ∷ 7 ∷ [])
+    -- the same with 4, 6
+    ∷ P 5 (let t : Table = fullSupply (callback 10 15 2 (4 ∷ 6 ∷ []) ∷ []) in sheet t ++ bounds t) (10 ∷ 0 ∷ 0 ∷ 5 ∷ [])
+    -- full supply, timer T = d = 10, entry 2; subscription T = d = 20, entry 3: W, accepted, the bounds
+    ∷ P 6 (let t : Table = fullSupply (timer 10 0 10 (2 ∷ []) ∷ callback 20 0 20 (3 ∷ []) ∷ []) in sheet t ++ bounds t) (5 ∷ 0 ∷ 0 ∷ 5 ∷ 5 ∷ [])
+    -- Q 2, P 5, P6 with T = d = 50 and 100
+    ∷ P 7 (let t : Table = tableOf 2 5 (timer 50 0 50 (2 ∷ []) ∷ callback 100 0 100 (3 ∷ []) ∷ []) in sheet t ++ bounds t) (17 ∷ 0 ∷ 0 ∷ 17 ∷ 17 ∷ [])
+    -- full supply, T = d = 2, entry 2: W; at Q 1, P 2: refusal 15
+    ∷ P 8 (sheet (fullSupply (callback 2 0 2 (2 ∷ []) ∷ []))) (2 ∷ 0 ∷ 0 ∷ [])
+    ∷ P 8 (sheet (tableOf 1 2 (callback 2 0 2 (2 ∷ []) ∷ []))) (0 ∷ 15 ∷ 0 ∷ [])
+    -- full supply, T 200, d 1, entry 2: J 50,400 gives W and a(W), accepted; J 50,600 is refusal 16, index 1
+    ∷ P 9 (let t : Table = fullSupply (callback 200 50400 1 (2 ∷ []) ∷ []) in sheet t ++ arrivalsInWindow t) (510 ∷ 0 ∷ 0 ∷ 255 ∷ [])
+    ∷ P 9 (sheet (fullSupply (callback 200 50600 1 (2 ∷ []) ∷ []))) (0 ∷ 16 ∷ 1 ∷ [])
     ∷ []
 
 -- two rows of numbers agree

@@ -1,0 +1,31 @@
+-- Laws of the lent row as its places are written: bounds-length, row-start, row-more, row-length.
+use mathlib.Core.Path.{_≡_, refl, sym, ap, _∙_}
+use mathlib.Core.List.{List, [], _∷_}
+use Prim.Native.Nat.{ℕ, zero, suc, _+_, _≤_, _<_}
+use native.Mathlib.Numerals.{add-one}
+use native.Mathlib.Omega.{arith}
+use lib.ListN.{length, set, length-append}
+use Rattle.lent.specs.Over.{over}
+use Rattle.lent.proofs.Replace.{over-nil, over-more, over-length}
+use Rattle.table.specs.declared.Table.{Table}
+use Rattle.sheet.specs.Sheet.{boundOf, boundsTo}
+
+pub bounds-length : (t : Table) (i : ℕ) → length (boundsTo t i) ≡ i
+unfolding boundsTo
+bounds-length t zero = refl
+bounds-length t (suc i) = omega (arith, length-append (boundsTo t i) (boundOf t i ∷ []), bounds-length t i)
+
+module _ (t : Table) (row : List ℕ) where
+  pub row-start : row ≡ over row 0 (boundsTo t 0)
+  unfolding boundsTo
+  row-start = sym (over-nil row 0)
+
+  -- one bound more
+  pub row-more : (i : ℕ) → i < length row → set (over row 0 (boundsTo t i)) i (boundOf t i) ≡ over row 0 (boundsTo t (i + 1))
+  unfolding boundsTo
+  row-more i h =
+      let e : 0 + length (boundsTo t i) ≡ i = omega (arith, bounds-length t i) in
+      over-more row 0 (boundsTo t i) (boundOf t i) i e h ∙ ap (λ (k : ℕ). over row 0 (boundsTo t k)) (sym (add-one i))
+
+  pub row-length : (i : ℕ) → i ≤ length row → length (over row 0 (boundsTo t i)) ≡ length row
+  row-length i h = over-length row 0 (boundsTo t i) (omega (arith, bounds-length t i))

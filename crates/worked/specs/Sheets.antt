@@ -1,0 +1,52 @@
+-- The tables of document 01's worked cases, and the numbers of their sheets, read from the tables' bytes as the analyser reads them.
+-- "Where not given, H, J and next are 0, the edition is 1 and the kind is 2"; "Full supply means Q = P = 1".
+use mathlib.Core.List.{List, [], _∷_, _++_}
+use Prim.Native.Nat.{ℕ, _-_}
+use lib.ListN.{length, take, replicate}
+use Rattle.table.specs.declared.Callback.{Callback}
+use Rattle.table.specs.declared.Table.{Table}
+use Rattle.table.specs.Numbers.{places, entryPlaces}
+use Rattle.table.specs.Written.{written}
+use Rattle.sheet.specs.declared.Sheet.{Sheet}
+use Rattle.sheet.specs.Sheet.{sheetOf, rowOf, arrivalsOf, windowOf}
+
+-- a callback of a kind with T, J, d and its entries, that ends its chain
+abbrev pub ofKind : ℕ → ℕ → ℕ → ℕ → List ℕ → Callback
+ofKind k T J d es = record {
+  kind = k;
+  next = 0;
+  entries = length es;
+  period = T;
+  jitter = J;
+  distance = d;
+  cost = es ++ replicate (entryPlaces - length es) 0;
+}
+
+abbrev pub timer : ℕ → ℕ → ℕ → List ℕ → Callback
+timer = ofKind 1
+
+abbrev pub callback : ℕ → ℕ → ℕ → List ℕ → Callback
+callback = ofKind 2
+
+-- a table with Q, P and its callbacks
+abbrev pub tableOf : ℕ → ℕ → List Callback → Table
+tableOf Q P cs = record { edition = 1; count = length cs; budget = Q; period = P; horizon = 0; callbacks = cs }
+
+abbrev pub fullSupply : List Callback → Table
+fullSupply = tableOf 1 1
+
+-- the window and the refusal's number and index
+abbrev pub numbers : Sheet → List ℕ
+numbers s = s .window ∷ s .refusal .number ∷ s .refusal .index ∷ []
+
+-- what the analyser returns for the bytes of a table: the window, 0 where it refuses, and the refusal's number and index, 0 and 0 where it accepts
+abbrev pub sheet : Table → List ℕ
+sheet t = numbers (sheetOf (written t) places)
+
+-- and what it writes into places 1 to n of a row
+abbrev pub bounds : Table → List ℕ
+bounds t = take (t .count) (rowOf (written t) (replicate places 0))
+
+-- a(W) of the first callback
+abbrev pub arrivalsInWindow : Table → List ℕ
+arrivalsInWindow t = arrivalsOf t 0 (windowOf t) ∷ []
