@@ -1,4 +1,16 @@
 // The executor as a machine that moves tick by tick (document 01, 'One tick of the machine').
+// answers: what a reply says, for hosts. arrivals: step 1.
+
+pub mod answers;
+mod arrivals;
+mod choosing;
+mod effect;
+mod faults;
+pub mod numbers;
+mod slots;
+mod starting;
+mod ticks;
+mod work;
 
 // "The tick answers with one of four": callback index and instance number, both from 1.
 pub enum Answer {

@@ -1,0 +1,245 @@
+-- Refusals 20 and 21: the slots of the mask, and the callback that is activated. Assumes nothing.
+--   lowest-is                                        the lowest slot that passes, from the slot
+--   full-hit, full-miss, full-end                    a mask's slots one after the other
+--   full-alone, full-one                             with the callback that is activated
+--   next-none, next-some, next-le                    who is activated
+--   foreign-law                                      a bit that belongs to no head
+--   chosen-below, finished-le, activated-le          whoever finishes, or is activated, is one of the table's
+--   full-law, finished-few, activated-few, full-is    refusal 21 of a tick
+use mathlib.Core.Path.{_≡_, refl, sym, subst, ap, ap₂, _∙_}
+use mathlib.Core.Logic.{_≢_}
+use mathlib.Core.Bool.{Bool, true, false, not, _&&_, _||_}
+use mathlib.Core.List.{List}
+use Prim.Native.Nat.{ℕ, zero, suc, _+_, _-_, _≤_, _<_}
+use native.Mathlib.Decide.{ℕ-discrete}
+use native.Mathlib.Numerals.{add-one}
+use native.Mathlib.Omega.{arith}
+use lib.Dec.{T, eqb, ltb, leb}
+use lib.ListN.{getD}
+use borrow.Author.Tests.{eq-eqb, ne-eqb, le-leb, lt-leb, ltb-false}
+use Rattle.masks.specs.Mask.{has, withBit, withoutBit, except, firstOf, gather}
+use Rattle.masks.proofs.Slots.{has-zero, has-with, has-without-same, has-without-other, has-except, except-lt, has-above}
+use Rattle.masks.proofs.Lowest.{first-of-below}
+use Rattle.masks.proofs.Gather.{gather-has}
+use Rattle.curves.specs.Least.{lowest, lowestFrom, least}
+use Rattle.curves.proofs.LeastLaws.{First, byIndex, lowest-least, least-is, lowest-hit, lowest-same}
+use Rattle.curves.proofs.EveryLaws.{T-holds, T-fails}
+use Rattle.table.specs.declared.Table.{Table}
+use Rattle.table.specs.Numbers.{places}
+use Rattle.table.specs.Values.{nextOf}
+use Rattle.table.specs.Links.{isHead}
+use Rattle.table.specs.Priority.{foremost, firstIndex}
+use Rattle.table.proofs.PriorityLaws.{first-lowest}
+use Rattle.executor.specs.declared.Answer.the-variants.{Idle}
+use Rattle.executor.specs.declared.Choice.{Choice}
+use Rattle.executor.specs.declared.Machine.{Machine}
+use Rattle.executor.specs.declared.Ticked.{Ticked}
+use Rattle.executor.specs.Numbers.{mostWaiting}
+use Rattle.executor.specs.Reply.{finishedOf}
+use Rattle.executor.specs.State.{isPolled, waitingOf}
+use Rattle.executor.specs.Effect.{waits, choose, gatheredOf, pollingPoint, finishes, continues, worked, begun, served, arrived, effect, after, answered}
+use Rattle.executor.specs.Tick.{foreign, nextActivated, full}
+use Rattle.executor.specs.Work.{Ready}
+use Rattle.executor.specs.Admitted.{nextAfter, fullIn, fullWith}
+use Rattle.executor.proofs.SlotLaws.{lowest-set}
+use Rattle.executor.proofs.ChooseLaws.{foremost-hit, chosenOf}
+
+-- ---- the lowest slot that passes
+
+pub lowest-is : (p : ℕ → Bool) (n i : ℕ) → i < n → p i ≡ true → ((j : ℕ) → j < i → p j ≡ false) → lowest p n ≡ suc i
+lowest-is p n i l e none = lowest-least p n 0 ∙ least-is (byIndex p) n 1 (suc i) found
+  where
+    before : (x : ℕ) → 1 ≤ x → x < suc i → T (not (byIndex p x))
+    before zero a b = absurd (omega arith)
+    before (suc j) a b = T-fails (p j) (none j (omega arith))
+
+    found : First (byIndex p) n 1 (suc i)
+    found = record { from = omega arith; below = omega arith; passes = T-holds (p i) e; none-before = before }
+
+pub lowest-never : (n : ℕ) → lowest (λ _. false) n ≡ 0
+lowest-never n = go (lowest (λ _. false) n) refl
+  where
+    go : (r : ℕ) → lowest (λ _. false) n ≡ r → r ≡ 0
+    go zero e = refl
+    go (suc i) e = absurd (lowest-hit (λ _. false) n i e .1)
+
+-- ---- the slots of a mask that are full
+
+module _ (ws : List ℕ) (m r : ℕ) (first : (r ≡ firstOf m) × (r < 16)) where
+  pub full-hit : mostWaiting ≤ getD ws r 0 → r + 1 ≡ fullIn ws m
+  unfolding fullIn
+  full-hit h =
+      add-one r
+      ∙ sym (lowest-is (λ j. has m j && leb mostWaiting (getD ws j 0)) places r (first .1)
+      (ap₂ _&&_ (lowest-set m r first) (le-leb mostWaiting (getD ws r 0) h))
+      (λ j l. ap (λ (b : Bool). b && leb mostWaiting (getD ws j 0)) (first-of-below m j (omega arith))))
+
+  pub full-miss : (x : ℕ) → getD ws r 0 < mostWaiting → x ≡ withoutBit m r → fullIn ws x ≡ fullIn ws m
+  unfolding fullIn
+  full-miss x h e = lowest-same _ _ places (λ j l. go j (ℕ-discrete j r))
+    where
+      -- slot r passes neither test
+      not-full : (b : Bool) → (b && leb mostWaiting (getD ws r 0)) ≡ false
+      not-full true = lt-leb mostWaiting (getD ws r 0) h
+      not-full false = refl
+
+      go : (j : ℕ) → Dec (j ≡ r) → (has x j && leb mostWaiting (getD ws j 0)) ≡ (has m j && leb mostWaiting (getD ws j 0))
+      go j (yes q) = rw q (not-full (has x r) ∙ sym (not-full (has m r)))
+      go j (no q) = ap (λ (b : Bool). b && leb mostWaiting (getD ws j 0)) (ap (λ (y : ℕ). has y j) e ∙ has-without-other m r j q)
+
+pub full-end : (ws : List ℕ) (m : ℕ) → m ≡ 0 → 0 ≡ fullIn ws m
+unfolding fullIn
+full-end ws m e =
+    sym (lowest-same _ (λ _. false) places (λ j l. ap (λ (b : Bool). b && leb mostWaiting (getD ws j 0)) (ap (λ (x : ℕ). has x j) e ∙ has-zero j)) ∙ lowest-never places)
+
+-- ---- with the callback that is activated
+
+module _ (ws : List ℕ) (mask x : ℕ) where
+  or-false : (b : Bool) → b ≡ (b || false)
+  or-false true = refl
+  or-false false = refl
+
+  pub full-alone : x ≡ 0 → fullIn ws mask ≡ fullWith ws mask x
+  unfolding fullIn fullWith
+  full-alone z =
+      lowest-same _ _ places
+      (λ j l. ap (λ (b : Bool). b && leb mostWaiting (getD ws j 0)) (or-false (has mask j) ∙ ap (λ (b : Bool). has mask j || b) (sym (ne-eqb x (suc j) (λ q. omega arith)))))
+
+  pub full-one : (y : ℕ) → x ≢ 0 → y ≡ withBit mask (x - 1) → fullIn ws y ≡ fullWith ws mask x
+  unfolding fullIn fullWith
+  full-one y h e =
+      lowest-same _ _ places
+      (λ j l.
+      ap (λ (b : Bool). b && leb mostWaiting (getD ws j 0))
+      (ap (λ (z : ℕ). has z j) e ∙ has-with mask (x - 1) j ∙ ap (λ (b : Bool). has mask j || b) (same j (ℕ-discrete j (x - 1)))))
+    where
+      same : (j : ℕ) → Dec (j ≡ x - 1) → eqb j (x - 1) ≡ eqb x (suc j)
+      same j (yes q) = eq-eqb j (x - 1) q ∙ sym (eq-eqb x (suc j) (omega arith))
+      same j (no q) = ne-eqb j (x - 1) q ∙ sym (ne-eqb x (suc j) (λ f. q (omega arith)))
+
+-- ---- who is activated
+
+module _ (t : Table) (x : ℕ) where
+  pub next-none : x ≡ 0 → 0 ≡ nextAfter t x
+  unfolding nextAfter
+  next-none e = sym (ap (nextAfter t) e)
+
+  pub next-some : x ≢ 0 → nextOf t (x - 1) ≡ nextAfter t x
+  unfolding nextAfter
+  next-some h = go x h
+    where
+      go : (y : ℕ) → y ≢ 0 → nextOf t (y - 1) ≡ elim y [ zero ↦ 0 | suc i ↦ nextOf t i ]
+      go zero n = absurd (n refl)
+      go (suc i) n = ap (nextOf t) (omega arith)
+
+  pub next-le : ((i : ℕ) → i < places → nextOf t i ≤ places) → x ≤ places → nextAfter t x ≤ places
+  unfolding nextAfter
+  next-le linked l = go x l
+    where
+      go : (y : ℕ) → y ≤ places → elim y as (λ _. ℕ) [ zero ↦ 0 | suc i ↦ nextOf t i ] ≤ places
+      go zero k = omega arith
+      go (suc i) k = linked i k
+
+-- ---- a bit that belongs to no head
+
+pub foreign-law : (t : Table) (mask heads rest x : ℕ) → mask < 65536 → heads ≡ gather (isHead t) (t .count)
+    → rest ≡ except mask heads → x ≡ firstIndex rest → x ≡ foreign t mask
+unfolding foreign
+foreign-law t mask heads rest x l e f g =
+    g
+    ∙ first-lowest _ 16 (omega arith) rest small same
+  where
+    small : rest < 65536
+    small = subst (λ (y : ℕ). y < 65536) (sym f) (except-lt 16 mask heads l)
+
+    test : ℕ → Bool
+    test i = has mask i && not (ltb i (t .count) && isHead t i)
+
+    same : (i : ℕ) → has rest i ≡ (ltb i 16 && test i)
+    same i = go (ltb i 16) refl
+      where
+        go : (b : Bool) → ltb i 16 ≡ b → has rest i ≡ (b && test i)
+        go true q =
+            ap (λ (y : ℕ). has y i) f ∙ has-except mask heads i ∙ ap (λ (b : Bool). has mask i && not b) (ap (λ (y : ℕ). has y i) e ∙ gather-has (isHead t) (t .count) i)
+        go false q = has-above 16 rest i small (ltb-false i 16 q)
+
+-- ---- whoever finishes is one of the table's
+
+foremost-le : (t : Table) (p : ℕ → Bool) → foremost t p ≤ t .count
+foremost-le t p = go (foremost t p) refl
+  where
+    go : (x : ℕ) → foremost t p ≡ x → x ≤ t .count
+    go zero e = omega arith
+    go (suc i) e = foremost-hit t p i e .0
+
+pub chosen-below : (t : Table) (c : ℕ) (ws : List ℕ) → (choose t c ws) .chosen ≤ t .count
+unfolding choose
+chosen-below t c ws =
+    go (foremost t (λ i. not (isPolled t i) && waits ws i)) (foremost-le t _) (foremost t (has c)) (foremost-le t (has c))
+  where
+    go : (x : ℕ) → x ≤ t .count → (y : ℕ) → y ≤ t .count → (chosenOf c x y (pollingPoint t (gatheredOf t ws))) .chosen ≤ t .count
+    go (suc i) l y h = l
+    go zero l (suc i) h = h
+    go zero l zero h = foremost-le t (has (gatheredOf t ws))
+
+module _ (m : Machine) (ok : Ready mostWaiting m) where
+  worked-le : (ws : List ℕ) (c i u : ℕ) (s p : Bool) (g : ℕ) → i < places → finishedOf ((worked m ws c i u s p g) .reply) ≤ places
+  unfolding worked finishes continues
+  worked-le ws c i u s p g l = go (eqb u 1)
+    where
+      go : (b : Bool) → finishedOf ((elim b as (λ _. Ticked) [ true ↦ finishes m ws c i s p g | false ↦ continues m ws c i (u - 1) s p g ]) .reply) ≤ places
+      go true = l
+      go false = omega arith
+
+  served-le : (ws : List ℕ) (cost : ℕ) → finishedOf ((served m ws cost) .reply) ≤ places
+  unfolding served begun
+  served-le ws cost = go (m .running) refl
+    where
+      x : Choice
+      x = choose (m .table) (m .cache) ws
+
+      start : (r : ℕ) → r ≤ places
+          → finishedOf ((elim r as (λ _. Ticked) [
+            | zero ↦ answered (after m ws (m .finished) (x .cache) 0 0) Idle false (x .polled) (x .gathered)
+            | suc i ↦ worked m ws (x .cache) i cost true (x .polled) (x .gathered)
+          ]) .reply) ≤ places
+      start zero l = omega arith
+      start (suc i) l = worked-le ws (x .cache) i cost true (x .polled) (x .gathered) l
+
+      go : (r : ℕ) → m .running ≡ r
+          → finishedOf ((elim r as (λ _. Ticked) [ zero ↦ begun m ws cost x | suc i ↦ worked m ws (m .cache) i (m .units) false false 0 ]) .reply) ≤ places
+      go zero e = start (x .chosen) (omega (arith, chosen-below (m .table) (m .cache) ws, ok .counted))
+      go (suc i) e = worked-le ws (m .cache) i (m .units) false false 0 (ok .runner i e .0)
+
+  pub finished-le : (mask : ℕ) (supplied : Bool) (cost : ℕ) → finishedOf ((effect m mask supplied cost) .reply) ≤ places
+  unfolding effect
+  finished-le mask true cost = served-le (arrived mask (m .waiting)) cost
+  finished-le mask false cost = omega arith
+
+  -- the callback that the effect activates
+  pub activated-le : (mask : ℕ) (supplied : Bool) (cost : ℕ) → nextAfter (m .table) (finishedOf ((effect m mask supplied cost) .reply)) ≤ places
+  activated-le mask supplied cost = next-le (m .table) _ (ok .linked) (finished-le mask supplied cost)
+
+-- refusal 21 of a tick
+pub full-law : (m : Machine) (mask : ℕ) (supplied : Bool) (cost : ℕ)
+    → fullWith (m .waiting) mask (nextAfter (m .table) (finishedOf ((effect m mask supplied cost) .reply))) ≡ full m mask supplied cost
+unfolding full fullWith nextActivated nextAfter
+full-law m mask supplied cost = refl
+
+-- what the code finds on the way to it
+module _ (m : Machine) (mask : ℕ) (supplied : Bool) (cost : ℕ) (r : Ticked) (e : r ≡ effect m mask supplied cost) (x : ℕ) (f : x ≡ finishedOf (r .reply)) where
+  finished-is : x ≡ finishedOf ((effect m mask supplied cost) .reply)
+  finished-is = f ∙ ap (λ (y : Ticked). finishedOf (y .reply)) e
+
+  pub finished-few : Ready mostWaiting m → x ≤ places
+  finished-few ok = subst (λ (y : ℕ). y ≤ places) (sym finished-is) (finished-le m ok mask supplied cost)
+
+  module _ (n : ℕ) (g : n ≡ nextAfter (m .table) x) where
+    next-is : n ≡ nextAfter (m .table) (finishedOf ((effect m mask supplied cost) .reply))
+    next-is = g ∙ ap (nextAfter (m .table)) finished-is
+
+    pub activated-few : Ready mostWaiting m → n ≤ places
+    activated-few ok = subst (λ (y : ℕ). y ≤ places) (sym next-is) (activated-le m ok mask supplied cost)
+
+    pub full-is : (y : ℕ) → y ≡ fullWith (m .waiting) mask n → y ≡ full m mask supplied cost
+    full-is y h = h ∙ ap (fullWith (m .waiting) mask) next-is ∙ full-law m mask supplied cost

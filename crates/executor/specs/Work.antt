@@ -1,0 +1,113 @@
+-- What the functions of a tick ask and give, beside the definitions of Effect.
+use Prim.Native.Nat.{ℕ, zero, suc, _+_, _-_, _≤_, _<_}
+use mathlib.Core.Path.{_≡_}
+use mathlib.Core.List.{List}
+use mathlib.Core.Bool.{Bool, true, false, cond, not, _&&_, _||_}
+use lib.Dec.{eqb, ltb, leb}
+use lib.ListN.{getD}
+use Rattle.masks.specs.Mask.{has, both, except, countOf}
+use Rattle.curves.specs.Every.{every, some}
+use Rattle.table.specs.declared.Callback.{Callback}
+use Rattle.table.specs.declared.Kinds.{Kinds}
+use Rattle.table.specs.Numbers.{places, entryPlaces}
+use Rattle.table.specs.Priority.{foremostIn}
+use Rattle.table.specs.Rules.{within}
+use Rattle.table.specs.declared.Table.{Table}
+use Rattle.table.specs.Values.{callbackAt, nextOf}
+use Rattle.executor.specs.declared.Answer.the-variants.{Idle}
+use Rattle.executor.specs.declared.Choice.{Choice}
+use Rattle.executor.specs.declared.Machine.{Machine}
+use Rattle.executor.specs.declared.Ticked.{Ticked}
+use Rattle.executor.specs.Numbers.{mostTicks, mostWaiting, largestCost}
+use Rattle.executor.specs.State.{waitingOf, finishedAt, isBlank, slotFault, runFault}
+use Rattle.executor.specs.Effect.{after, answered, choice, finishes, continues, worked}
+
+-- the faults of one slot, over its values: beyond n, its counts, the cache
+unfoldable pub beyondWrong : Bool → Bool → ℕ → ℕ → Bool
+beyondWrong beyond cached w f = beyond && (cached || (ltb 0 w || ltb 0 f))
+
+unfoldable pub countWrong : ℕ → ℕ → ℕ → Bool
+countWrong w f clock = ltb mostWaiting w || ltb clock f
+
+unfoldable pub cacheWrong : Bool → Bool → Bool → ℕ → Bool
+cacheWrong cached running polled w =
+    ((cached || running) && eqb w 0) || ((cached && not polled) || (running && (polled && not cached)))
+
+unfoldable pub slotWrong : Bool → Bool → Bool → Bool → ℕ → ℕ → ℕ → Bool
+slotWrong beyond cached running polled w f clock =
+    beyondWrong beyond cached w f || (countWrong w f clock || cacheWrong cached running polled w)
+
+-- the running callback's index and its units left, over n
+unfoldable pub runWrong : ℕ → ℕ → ℕ → Bool
+runWrong n running units = ltb n running || cond (eqb running 0) (not (eqb units 0)) (not (within 1 largestCost units))
+
+-- every cost entry of a place is zero
+abbrev pub noEntries : Callback → Bool
+noEntries c = every entryPlaces (λ k. eqb (getD (c .cost) k 0) 0)
+
+-- the faults of a state other than those of its table
+unfoldable pub stateFault : Machine → Bool
+stateFault m = runFault m || some places (slotFault m)
+
+-- a place beyond n that is not blank; one of them
+abbrev pub isSpare : Table → ℕ → Bool
+isSpare t i = leb (t .count) i && not (isBlank (callbackAt t i))
+
+unfoldable pub spareFault : Table → Bool
+spareFault t = some places (isSpare t)
+
+-- a polling point in masks: the slots gathered, and the first of them
+abbrev pub pollIn : Kinds → ℕ → Choice
+pollIn k g = choice (foremostIn k g) g true (countOf places g)
+
+-- step 3 in masks: the slots of each kind, the cache, and the slots that wait
+unfoldable pub chooseIn : Kinds → ℕ → ℕ → Choice
+chooseIn k c w =
+    elim (foremostIn k (both (k .timers) w)) [
+      | suc i ↦ choice (suc i) c false 0
+      | zero ↦ elim (foremostIn k c) [ suc i ↦ choice (suc i) c false 0 | zero ↦ pollIn k (except w (k .timers)) ]
+    ]
+
+-- the slot of the callback that a choice names
+abbrev pub slotOf : Choice → ℕ
+slotOf x = x .chosen - 1
+
+-- step 4 for that callback: the last unit, a unit that is not the last, either
+abbrev pub finishedBy : Machine → Choice → Bool → Ticked
+finishedBy m x started = finishes m (m .waiting) (x .cache) (slotOf x) started (x .polled) (x .gathered)
+
+abbrev pub continuedBy : Machine → Choice → ℕ → Bool → Ticked
+continuedBy m x u started = continues m (m .waiting) (x .cache) (slotOf x) u started (x .polled) (x .gathered)
+
+abbrev pub workedBy : Machine → Choice → ℕ → Bool → Ticked
+workedBy m x u started = worked m (m .waiting) (x .cache) (slotOf x) u started (x .polled) (x .gathered)
+
+-- what step 4 asks: somebody is named who waits, and the counts have room for one more
+pub record Workable (m : Machine) (x : Choice) : Type 0 where
+  pub named : 0 < x .chosen
+  pub inside : x .chosen ≤ places
+  pub waits : 0 < waitingOf m (slotOf x)
+  pub room : (i : ℕ) → i < places → waitingOf m i ≤ mostWaiting + 1
+  pub counted : finishedAt m (slotOf x) < mostTicks
+  pub linked : nextOf (m .table) (slotOf x) ≤ places
+  pub early : m .clock < mostTicks
+
+-- the state with other waiting counts
+abbrev pub withWaiting : Machine → List ℕ → Machine
+withWaiting m ws =
+    record { table = m .table; waiting = ws; finished = m .finished; cache = m .cache; running = m .running; units = m .units; clock = m .clock }
+
+-- a tick in which nobody is chosen
+abbrev pub idled : Machine → Choice → Ticked
+idled m x = answered (after m (m .waiting) (m .finished) (x .cache) 0 0) Idle false (x .polled) (x .gathered)
+
+-- what steps 1 to 4 ask of a state, and what one without faults gives: no waiting count is above `most`
+pub record Ready (most : ℕ) (m : Machine) : Type 0 where
+  pub counted : m .table .count ≤ places
+  pub linked : (i : ℕ) → i < places → nextOf (m .table) i ≤ places
+  pub room : (i : ℕ) → i < places → waitingOf m i ≤ most
+  pub early : m .clock < mostTicks
+  pub done : (i : ℕ) → i < places → finishedAt m i < mostTicks
+  pub runner : (i : ℕ) → m .running ≡ suc i → (i < places) × (0 < waitingOf m i)
+  pub measured : (i : ℕ) → m .running ≡ suc i → 0 < m .units
+  pub cached : (i : ℕ) → i < m .table .count → has (m .cache) i ≡ true → 0 < waitingOf m i
