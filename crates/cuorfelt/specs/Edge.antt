@@ -5,10 +5,11 @@ use Prim.Native.Nat.{ℕ}
 use lib.Dec.{eqb}
 use lib.ListN.{length}
 use Rattle.table.specs.declared.Refusal.{Refusal}
-use Rattle.table.specs.Values.{refuse, orElse}
+use Rattle.table.specs.Values.{refuse}
 use Rattle.table.specs.Format.{readFault}
 use Rattle.sheet.specs.Sheet.{sheetOf}
 use Rattle.executor.specs.declared.Machine.{Machine}
+use Rattle.executor.specs.declared.Reply.{Reply}
 use Rattle.executor.specs.declared.Ticked.{Ticked}
 use Rattle.executor.specs.Numbers.{faultyState}
 use Rattle.executor.specs.Reply.{numberOf, callbackOf, instanceOf, refusalOf}
@@ -47,19 +48,23 @@ abbrev pub flag : Bool → ℕ
 flag true = 1
 flag false = 0
 
--- a tick as a host sees it
-unfoldable pub saidBy : Ticked → Said
-saidBy x =
+-- a reply as a host sees it, with what stands beside it
+unfoldable pub saidOf : Reply → Bool → Bool → ℕ → Said
+saidOf r started polled gathered =
     record {
-      instance = instanceOf (x .reply);
-      number = (refusalOf (x .reply)) .number;
-      index = (refusalOf (x .reply)) .index;
-      answer = numberOf (x .reply);
-      callback = callbackOf (x .reply);
-      started = flag (x .started);
-      polled = flag (x .polled);
-      gathered = x .gathered;
+      instance = instanceOf r;
+      number = (refusalOf r) .number;
+      index = (refusalOf r) .index;
+      answer = numberOf r;
+      callback = callbackOf r;
+      started = flag started;
+      polled = flag polled;
+      gathered = gathered;
     }
+
+-- a tick as a host sees it
+abbrev pub saidBy : Ticked → Said
+saidBy x = saidOf (x .reply) (x .started) (x .polled) (x .gathered)
 
 -- "A tick lent another length, or bytes that hold no state, is refused with 29"
 unfoldable pub noState : Said

@@ -6,10 +6,13 @@ use Prim.Native.Nat.{ℕ, zero, suc, _+_, _-_, _*_}
 use lib.Dec.{eqb}
 use lib.ListN.{length, getD, take, replicate}
 use Rattle.lent.specs.Bytes.{get2, get4, le2, le4, zeros}
+use Rattle.table.specs.declared.Table.{Table}
+use Rattle.table.specs.Values.{blankTable}
 use Rattle.table.specs.Format.{recordStart, readFault, tableAt}
 use Rattle.table.specs.Written.{words, written}
 use Rattle.executor.specs.declared.Machine.{Machine}
-use Rattle.executor.specs.State.{faulty}
+use Rattle.executor.specs.State.{fresh, faulty}
+use Rattle.cuorfelt.specs.declared.Unpacked.{Unpacked}
 
 abbrev pub stateLength : ℕ
 stateLength = 640
@@ -68,11 +71,11 @@ laidOut b =
     && (eqb ((readFault (tablePart b)) .number) 0
     && (zeros b (tableEnd b) (waitingStart - tableEnd b) && zeros b spareStart spareBytes))
 
--- the state that the bytes hold
-unfoldable pub unpacked : List ℕ → Machine
-unpacked b =
+-- the state that the bytes hold around a table
+unfoldable pub unpackedWith : Table → List ℕ → Machine
+unpackedWith t b =
     record {
-      table = tableAt (tablePart b);
+      table = t;
       waiting = get2s b waitingStart 16;
       finished = get4s b finishedStart 16;
       cache = get2 b cacheStart;
@@ -80,6 +83,10 @@ unpacked b =
       units = get2 b unitsStart;
       clock = get4 b clockStart;
     }
+
+-- the state that the bytes hold
+abbrev pub unpacked : List ℕ → Machine
+unpacked b = unpackedWith (tableAt (tablePart b)) b
 
 -- the bytes behind the table's place
 unfoldable pub packedTail : Machine → List ℕ
@@ -89,6 +96,14 @@ packedTail m =
 -- the state in bytes
 unfoldable pub packed : Machine → List ℕ
 packed m = written (m .table) ++ (replicate (waitingStart - length (written (m .table))) 0 ++ packedTail m)
+
+-- what unpacking gives where the bytes are not laid out as a state: a state that is zero throughout
+abbrev pub notLaid : Unpacked
+notLaid = record { laid = false; machine = fresh blankTable }
+
+-- what unpacking gives: whether the bytes are laid out as a state, and the state
+unfoldable pub unpacking : List ℕ → Unpacked
+unpacking b = elim (laidOut b) [ true ↦ record { laid = true; machine = unpacked b } | false ↦ notLaid ]
 
 -- "bytes that hold no state": laid out otherwise, or with a fault
 unfoldable pub holdsState : List ℕ → Bool

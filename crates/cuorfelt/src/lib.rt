@@ -1,4 +1,17 @@
 // The edge for hosts written in C: reader, analyser and machine on numbers and lent slices, the machine's state packed in lent bytes.
+// numbers: length and layout of the state. layout: the state packed and unpacked. include/cuorfelt.h declares what is exported here.
+
+ghost use mathlib.Core.Path.{_≡_};
+ghost use mathlib.Core.Bool.{Bool};
+ghost use Prim.Native.Nat.{ℕ};
+ghost use lib.ListN.{length};
+ghost use Rattle.table.specs.Values.{refuse};
+ghost use Rattle.sheet.specs.Sheet.{rowOf};
+ghost use Rattle.cuorfelt.specs.Layout.{stateLength};
+ghost use Rattle.cuorfelt.specs.Edge.{refusedBy, readSaid, sheetSaid, startSaid, stateStarted, flag, saidOf, noState, tickSaid, stateTicked};
+
+mod numbers;
+mod layout;
 
 // A refusal; number 0 where nothing is refused.
 #[repr(C)]
@@ -27,4 +40,139 @@ pub struct Said {
     pub started: u8,
     pub polled: u8,
     pub gathered: u8,
+}
+
+// What unpacking gives: whether the bytes are laid out as a state, and the state, a blank one where they are not.
+pub struct Unpacked {
+    pub laid: bool,
+    pub machine: executor::Machine,
+}
+
+// A refusal as a host sees it.
+fn refusal(r: table::Refusal) -> Refused
+    ensures { λ o. ⌜ o ≡ refusedBy r ⌝ }
+{
+    Refused {
+        number: r.number,
+        index: r.index,
+    }
+}
+
+// The length of a state in bytes.
+#[no_mangle]
+pub extern "C" fn cuorfelt_state_length() -> usize
+    ensures { λ r. ⌜ r ≡ stateLength ⌝ }
+{
+    numbers::STATE_LENGTH
+}
+
+// The refusal of a table's bytes, 1 to 14, or number 0.
+#[no_mangle]
+pub extern "C" fn cuorfelt_read(table: &[u8]) -> Refused
+    ensures { λ r. ⌜ r ≡ readSaid (now (table .entry)) ⌝ }
+{
+    let reading = table::reader::read(table);
+    let r = reading.refusal;
+    refusal(r)
+}
+
+// 1 or 0.
+fn flagged(b: bool) -> u8
+    ensures { λ r. ⌜ r ≡ flag b ⌝ }
+{
+    if b {
+        return 1;
+    }
+    0
+}
+
+// The window and the bounds of a table: bounds 1 to n into the row, whose other places are kept, and the whole row where the
+// refusal's number is not 0.
+#[no_mangle]
+pub extern "C" fn cuorfelt_analyse(table: &[u8], row: &mut [u16]) -> Analysed
+    ensures { λ r. ⌜ (r ≡ sheetSaid (now (table .entry)) (length (now (row .entry)))) × (now (row .exit) ≡ rowOf (now (table .entry)) (now (row .entry))) ⌝ }
+{
+    let sheet = sheet::analyse(table, row);
+    let r = sheet.refusal;
+    Analysed {
+        window: sheet.window,
+        number: r.number,
+        index: r.index,
+    }
+}
+
+// Starts a machine in the lent bytes: the fresh state of the table, or the refusal, which leaves them as they were.
+#[no_mangle]
+pub extern "C" fn cuorfelt_start(table: &[u8], state: &mut [u8]) -> Refused
+    ensures { λ r. ⌜ (r ≡ startSaid (now (table .entry)) (now (state .entry))) × (now (state .exit) ≡ stateStarted (now (table .entry)) (now (state .entry))) ⌝ }
+{
+    if state.len() != numbers::STATE_LENGTH {
+        return Refused {
+            number: executor::numbers::FAULTY_STATE,
+            index: 0,
+        };
+    }
+    let started = executor::Machine::start(table);
+    let r = started.refusal;
+    if r.number != 0 {
+        return refusal(r);
+    }
+    lent::copy(state, 0, table);
+    let end = table.len();
+    lent::zero(state, end, numbers::STATE_LENGTH - end);
+    refusal(r)
+}
+
+// A reply as a host sees it, with what stands beside it.
+fn said_of(reply: executor::Reply, started: bool, polled: bool, gathered: u8) -> Said
+    ensures { λ r. ⌜ r ≡ saidOf reply started polled gathered ⌝ }
+{
+    let r = reply.refusal();
+    Said {
+        instance: reply.instance(),
+        number: r.number,
+        index: r.index,
+        answer: reply.number(),
+        callback: reply.callback(),
+        started: flagged(started),
+        polled: flagged(polled),
+        gathered: gathered,
+    }
+}
+
+// What a tick says where the lent bytes are not laid out as a state.
+fn no_state() -> Said
+    ensures { λ r. ⌜ r ≡ noState ⌝ }
+{
+    Said {
+        instance: 0,
+        number: executor::numbers::FAULTY_STATE,
+        index: 0,
+        answer: 0,
+        callback: 0,
+        started: 0,
+        polled: 0,
+        gathered: 0,
+    }
+}
+
+// One tick on the state in the lent bytes; a refusal leaves them as they were. Supplied is 0, or anything else.
+#[no_mangle]
+pub extern "C" fn cuorfelt_tick(state: &mut [u8], mask: u16, supplied: u8, cost: u32) -> Said
+    ensures { λ r. ⌜ (r ≡ tickSaid (now (state .entry)) mask supplied cost) × (now (state .exit) ≡ stateTicked (now (state .entry)) mask supplied cost) ⌝ }
+{
+    let held = layout::unpack(&*state);
+    if !held.laid {
+        return no_state();
+    }
+    let m = held.machine;
+    let x = m.tick_checked(mask, supplied != 0, cost);
+    let reply = x.reply;
+    let r = said_of(reply, x.started, x.polled, x.gathered);
+    if r.number != 0 {
+        return r;
+    }
+    let next = x.machine;
+    layout::pack_tail(state, next);
+    r
 }

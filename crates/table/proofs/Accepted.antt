@@ -33,12 +33,12 @@ use Rattle.table.proofs.Sound.{Sound, sound}
 -- ---- the places
 
 module _ (b : List ℕ) where
-  records-length : (n : ℕ) → length (recordsTo b n) ≡ 16
+  pub records-length : (n : ℕ) → length (recordsTo b n) ≡ 16
   unfolding recordsTo
   records-length zero = length-replicate 16 blank
   records-length (suc n) = length-set (recordsTo b n) n (recordAt b (recordStart n)) ∙ records-length n
 
-  records-in : (n i : ℕ) → n ≤ 16 → i < n → getD (recordsTo b n) i vacant ≡ recordAt b (recordStart i)
+  pub records-in : (n i : ℕ) → n ≤ 16 → i < n → getD (recordsTo b n) i vacant ≡ recordAt b (recordStart i)
   unfolding recordsTo
   records-in zero i h l = absurd (omega arith)
   records-in (suc n) i h l = go (eq-or-lt-of-le (le-of-suc-le-suc l)) (λ k. records-in n i (omega arith) k)
@@ -48,7 +48,7 @@ module _ (b : List ℕ) where
       go (inl e) w = rw e (getD-set-same (recordsTo b n) n (recordAt b (recordStart n)) vacant (omega (arith, records-length n)))
       go (inr k) w = getD-set-other (recordsTo b n) n i (recordAt b (recordStart n)) vacant (λ q. omega arith) ∙ w k
 
-  records-out : (n i : ℕ) → n ≤ i → i < 16 → getD (recordsTo b n) i vacant ≡ blank
+  pub records-out : (n i : ℕ) → n ≤ i → i < 16 → getD (recordsTo b n) i vacant ≡ blank
   unfolding recordsTo
   records-out zero i h l = getD-replicate 16 i blank vacant l
   records-out (suc n) i h l = getD-set-other (recordsTo b n) n i (recordAt b (recordStart n)) vacant (λ q. omega arith) ∙ records-out n i (omega arith) l

@@ -2,7 +2,7 @@
 -- PriorityLaws: the kinds' masks, and the first in priority. LoopLaws: a walk along next finds a loop or ends. ChainLaws: the way back to a chain's head.
 -- RulesLaws: one record's rules, and the records in turn. FaultLaws: the refusals in their order. FormatLaws: the bytes, and the reader.
 -- What other crates cite. Passed: what an accepted table has passed. Sound: what holds of every accepted table. Heads: its chains.
--- Accepted: what an accepted reading says of the bytes and of the table.
+-- Accepted: what an accepted reading says of the bytes and of the table. WrittenLaws: the bytes of a table's values and the reader are inverse to each other.
 pub mod NamedLaws
 pub mod PriorityLaws
 pub mod LoopLaws
@@ -14,3 +14,4 @@ pub mod Passed
 pub mod Sound
 pub mod Heads
 pub mod Accepted
+pub mod WrittenLaws

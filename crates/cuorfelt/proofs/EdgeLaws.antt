@@ -1,0 +1,196 @@
+-- What the exported functions are made of, test by test. Assumes nothing.
+-- not-laid, is-laid, laid-no, laid-yes, not-zero, part-number, part-table: what unpacking gives.
+-- analysed: the analyser. start-short, start-size, start-refused, start-done: a start. said-parts, tick-none, tick-refused, tick-done: a tick.
+use mathlib.Core.Path.{_≡_, refl, sym, ap, ap₂, _∙_}
+use mathlib.Core.Bool.{Bool, true, false, not}
+use mathlib.Core.List.{List, _++_}
+use Prim.Native.Nat.{ℕ, zero, suc, _<_, _≤_, _-_}
+use native.Mathlib.Omega.{arith}
+use lib.Dec.{eqb}
+use lib.ListN.{length, getD, replicate, length-replicate, length-append}
+use borrow.Author.Tests.{eq-eqb, ne-eqb, not-true}
+use Rattle.curves.proofs.EveryLaws.{never-both}
+use Rattle.lent.specs.Over.{over}
+use Rattle.lent.proofs.Replace.{over-over, over-all}
+use Rattle.table.specs.declared.Reading.{Reading}
+use Rattle.table.specs.declared.Refusal.{Refusal}
+use Rattle.table.specs.declared.Table.{Table}
+use Rattle.table.specs.Numbers.{places}
+use Rattle.table.specs.Values.{refuse}
+use Rattle.table.specs.Format.{tableAt, readFault, readOf}
+use Rattle.table.proofs.Accepted.{reading-is, read-table, read-fits, read-few}
+use Rattle.sheet.specs.declared.Sheet.{Sheet}
+use Rattle.sheet.specs.Sheet.{sheetOf}
+use Rattle.executor.specs.declared.Machine.{Machine}
+use Rattle.executor.specs.declared.Reply.{Reply}
+use Rattle.executor.specs.declared.Started.{Started}
+use Rattle.executor.specs.declared.Ticked.{Ticked}
+use Rattle.executor.specs.Numbers.{faultyState}
+use Rattle.executor.specs.Reply.{numberOf, callbackOf, instanceOf, refusalOf}
+use Rattle.executor.specs.State.{fresh}
+use Rattle.executor.specs.Start.{startOf}
+use Rattle.executor.specs.Tick.{tickOf}
+use Rattle.cuorfelt.specs.declared.Analysed.{Analysed}
+use Rattle.cuorfelt.specs.declared.Refused.{Refused}
+use Rattle.cuorfelt.specs.declared.Said.{Said}
+use Rattle.cuorfelt.specs.declared.Unpacked.{Unpacked}
+use Rattle.cuorfelt.specs.Layout.{stateLength, waitingStart, tablePart, laidOut, unpacked, notLaid, unpacking, packedTail, packed}
+use Rattle.cuorfelt.specs.Edge.{refusedBy, sheetSaid, startFault, startSaid, stateStarted, flag, saidOf, saidBy, noState, isSupplied, tickSaid, stateTicked}
+use Rattle.cuorfelt.proofs.LayoutLaws.{Laid, laid, laid-out, packed-fresh, packed-over}
+use Rattle.cuorfelt.proofs.TickLaws.{tick-table}
+
+-- ---- unpacking
+
+pub not-laid : (b : List ℕ) → (Laid b → ⊥) → notLaid ≡ unpacking b
+unfolding unpacking
+not-laid b h = go (laidOut b) refl
+  where
+    go : (x : Bool) → laidOut b ≡ x → notLaid ≡ unpacking b
+    go true e = absurd (h (laid b e))
+    go false e = rw (e, unpacking)
+
+pub is-laid : (b : List ℕ) → Laid b → unpacking b ≡ record { laid = true; machine = unpacked b }
+unfolding unpacking
+is-laid b l = rw (laid-out b l, unpacking)
+
+laid-is : (b : List ℕ) → (unpacking b) .laid ≡ laidOut b
+unfolding unpacking
+laid-is b = go (laidOut b) refl
+  where
+    go : (x : Bool) → laidOut b ≡ x → (unpacking b) .laid ≡ x
+    go true e = rw (e, unpacking)
+    go false e = rw (e, unpacking)
+
+pub laid-no : (b : List ℕ) {u : Unpacked} → u ≡ unpacking b → u .laid ≡ false → laidOut b ≡ false
+laid-no b e f = sym (laid-is b) ∙ ap (λ (u : Unpacked). u .laid) (sym e) ∙ f
+
+pub laid-yes : (b : List ℕ) {u : Unpacked} → u ≡ unpacking b → u .laid ≡ true → Laid b
+laid-yes b e f = laid b (sym (laid-is b) ∙ ap (λ (u : Unpacked). u .laid) (sym e) ∙ f)
+
+pub laid-machine : (b : List ℕ) {u : Unpacked} → u ≡ unpacking b → u .laid ≡ true → u .machine ≡ unpacked b
+laid-machine b e f = ap (λ (u : Unpacked). u .machine) (e ∙ is-laid b (laid-yes b e f))
+
+-- a test for zeros that fails
+pub not-zero : (x y : Bool) → x ≡ y → not x ≡ true → y ≡ true → ⊥
+not-zero x y e f g = never-both x (e ∙ g) (not-true x f)
+
+-- a table read from its own part
+pub part-number : (b : List ℕ) {x : List ℕ} {r : Reading} → r ≡ readOf x → x ≡ tablePart b → r .refusal .number ≡ (readFault (tablePart b)) .number
+part-number b e f = ap (λ (r : Reading). r .refusal .number) (e ∙ ap readOf f) ∙ ap (λ (r : Refusal). r .number) (reading-is (tablePart b))
+
+pub part-table : (b : List ℕ) {x : List ℕ} {r : Reading} → r ≡ readOf x → x ≡ tablePart b → r .refusal .number ≡ 0 → r .table ≡ tableAt (tablePart b)
+part-table b e f g = ap (λ (r : Reading). r .table) (e ∙ ap readOf f) ∙ read-table (tablePart b) (sym (part-number b e f) ∙ g)
+
+-- ---- the analyser
+
+pub analysed : (b : List ℕ) (n : ℕ) {x : Sheet} → x ≡ sheetOf b n
+    → _≡_ {A = Analysed} (record { window = x .window; number = x .refusal .number; index = x .refusal .index }) (sheetSaid b n)
+unfolding sheetSaid
+analysed b n e = ap (λ (x : Sheet). record { window = x .window; number = x .refusal .number; index = x .refusal .index }) e
+
+-- ---- a start, of a table's bytes b in lent bytes s
+
+module _ (b : List ℕ) {x : Started} (e : x ≡ startOf b) (h : x .refusal .number ≡ 0) where
+  start-accepts : (readFault b) .number ≡ 0
+  unfolding startOf
+  start-accepts = ap (λ (r : Refusal). r .number) (sym (reading-is b)) ∙ ap (λ (x : Started). x .refusal .number) (sym e) ∙ h
+
+  pub start-size : length b ≤ waitingStart
+  start-size = omega (arith, read-fits b start-accepts, read-few b start-accepts)
+
+module _ (b s : List ℕ) where
+  fault-short : (length s ≡ stateLength → ⊥) → startFault b s ≡ refuse faultyState 0
+  unfolding startFault
+  fault-short h = rw (ne-eqb (length s) stateLength h, startFault)
+
+  fault-long : length s ≡ stateLength → startFault b s ≡ (startOf b) .refusal
+  unfolding startFault
+  fault-long h = rw (eq-eqb (length s) stateLength h, startFault)
+
+  state-kept : ((startFault b s) .number ≡ 0 → ⊥) → s ≡ stateStarted b s
+  unfolding stateStarted
+  state-kept h = rw (ne-eqb ((startFault b s) .number) 0 h, stateStarted)
+
+  state-new : (startFault b s) .number ≡ 0 → stateStarted b s ≡ packed ((startOf b) .machine)
+  unfolding stateStarted
+  state-new h = rw (eq-eqb ((startFault b s) .number) 0 h, stateStarted)
+
+  pub start-short : (length s ≡ stateLength → ⊥) → (_≡_ {A = Refused} (record { number = faultyState; index = 0 }) (startSaid b s)) × (s ≡ stateStarted b s)
+  unfolding startSaid
+  start-short h =
+      (ap refusedBy (sym (fault-short h)), state-kept (λ e. let z : faultyState ≡ 0 = ap (λ (r : Refusal). r .number) (sym (fault-short h)) ∙ e in omega arith))
+
+  module _ {x : Started} (long : length s ≡ stateLength) (e : x ≡ startOf b) where
+    said : refusedBy (x .refusal) ≡ startSaid b s
+    unfolding startSaid
+    said = ap (λ (x : Started). refusedBy (x .refusal)) e ∙ ap refusedBy (sym (fault-long long))
+
+    number : (startFault b s) .number ≡ x .refusal .number
+    number = ap (λ (r : Refusal). r .number) (fault-long long) ∙ ap (λ (x : Started). x .refusal .number) (sym e)
+
+    pub start-refused : (x .refusal .number ≡ 0 → ⊥) → (refusedBy (x .refusal) ≡ startSaid b s) × (s ≡ stateStarted b s)
+    start-refused h = (said, state-kept (λ z. h (sym number ∙ z)))
+
+    pub start-done : {s1 s2 : List ℕ} → x .refusal .number ≡ 0 → ((i : ℕ) → getD b i 0 < 256)
+        → s1 ≡ over s 0 b → s2 ≡ over s1 (length b) (replicate (stateLength - length b) 0)
+        → (refusedBy (x .refusal) ≡ startSaid b s) × (s2 ≡ stateStarted b s)
+    unfolding startOf
+    start-done h bytes e1 e2 =
+        let rest : List ℕ = replicate (stateLength - length b) 0 in
+        let n : length rest ≡ stateLength - length b = length-replicate (stateLength - length b) 0 in
+        let small : length b ≤ waitingStart = start-size b e h in
+        let ok : (readFault b) .number ≡ 0 = start-accepts b e h in
+        (
+          said,
+          e2
+              ∙ ap (λ (y : List ℕ). over y (length b) rest) e1
+              ∙ over-over s 0 b rest (length b) (omega arith) (omega arith)
+              ∙ over-all s (b ++ rest) (omega (arith, length-append b rest))
+              ∙ sym (packed-fresh b bytes ok)
+              ∙ ap (λ (t : Table). packed (fresh t)) (sym (read-table b ok))
+              ∙ sym (state-new (number ∙ h)),
+        )
+
+-- ---- a tick on lent bytes b
+
+module _ (b : List ℕ) (mask supplied cost : ℕ) where
+  same : ((tickSaid b mask supplied cost) .number ≡ 0 → ⊥) → b ≡ stateTicked b mask supplied cost
+  unfolding stateTicked
+  same h = rw (ne-eqb ((tickSaid b mask supplied cost) .number) 0 h, stateTicked)
+
+  pub tick-none : laidOut b ≡ false → (noState ≡ tickSaid b mask supplied cost) × (b ≡ stateTicked b mask supplied cost)
+  unfolding tickSaid noState
+  tick-none f =
+      let e : noState ≡ tickSaid b mask supplied cost = rw (f, tickSaid) in
+      (e, same (λ z. let y : faultyState ≡ 0 = ap (λ (r : Said). r .number) e ∙ z in omega arith))
+
+  module _ {m : Machine} {x : Ticked} {r : Said} (l : Laid b) (em : m ≡ unpacked b) (ex : x ≡ tickOf m mask (isSupplied supplied) cost) (er : r ≡ saidBy x) where
+    pub tick-said : r ≡ tickSaid b mask supplied cost
+    unfolding tickSaid
+    tick-said = er ∙ ap saidBy (ex ∙ ap (λ (y : Machine). tickOf y mask (isSupplied supplied) cost) em) ∙ rw (laid-out b l, tickSaid)
+
+    pub tick-refused : (r .number ≡ 0 → ⊥) → (r ≡ tickSaid b mask supplied cost) × (b ≡ stateTicked b mask supplied cost)
+    tick-refused h = (tick-said, same (λ z. h (ap (λ (y : Said). y .number) tick-said ∙ z)))
+
+    pub tick-done : {s : List ℕ} → ((i : ℕ) → getD b i 0 < 256) → r .number ≡ 0 → s ≡ over b waitingStart (packedTail (x .machine))
+        → length (x .machine .waiting) ≡ places → length (x .machine .finished) ≡ places
+        → (r ≡ tickSaid b mask supplied cost) × (s ≡ stateTicked b mask supplied cost)
+    unfolding stateTicked
+    tick-done bytes h es w f =
+        let table : x .machine .table ≡ (unpacked b) .table =
+        ap (λ (y : Ticked). y .machine .table) ex ∙ tick-table m mask (isSupplied supplied) cost ∙ ap (λ (y : Machine). y .table) em in
+        (
+          tick-said,
+          es
+              ∙ sym (packed-over b bytes l (x .machine) table w f)
+              ∙ ap (λ (y : Ticked). packed (y .machine)) (ex ∙ ap (λ (y : Machine). tickOf y mask (isSupplied supplied) cost) em)
+              ∙ rw (eq-eqb ((tickSaid b mask supplied cost) .number) 0 (ap (λ (y : Said). y .number) (sym tick-said) ∙ h), stateTicked),
+        )
+
+-- what a tick says, part by part
+pub said-parts : (r : Reply) (started polled : Bool) (gathered : ℕ) {x : Refusal} {k a i s p : ℕ}
+    → x ≡ refusalOf r → k ≡ instanceOf r → a ≡ numberOf r → i ≡ callbackOf r → s ≡ flag started → p ≡ flag polled
+    → _≡_ {A = Said} (record { instance = k; number = x .number; index = x .index; answer = a; callback = i; started = s; polled = p; gathered = gathered })
+    (saidOf r started polled gathered)
+unfolding saidOf
+said-parts r started polled gathered ex ek ea ei es ep = simp (ex, ek, ea, ei, es, ep)

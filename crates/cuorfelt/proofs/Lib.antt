@@ -1,0 +1,7 @@
+-- Runs: numbers of one width, one after the other. LayoutLaws: packing and unpacking a state are inverse to each other.
+-- TickLaws: a tick keeps the table. EdgeLaws: the parts of the exported functions.
+pub mod Runs
+pub mod LayoutLaws
+pub mod TickLaws
+pub mod EdgeLaws
+pub mod FitsLaws

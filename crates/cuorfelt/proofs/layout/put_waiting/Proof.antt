@@ -1,0 +1,86 @@
+-- After i steps the first i counts are in their places, and every other byte is as it was.
+use mathlib.Core.Path.{_≡_, refl, sym, ap, _∙_}
+use mathlib.Core.List.{List}
+use Prim.Native.Nat.{ℕ, _≤_, _-_, _+_, _*_}
+use lib.ListN.{length, take, getD}
+use lib.Seq.{take-all}
+use denote.Ref.{now}
+use native.Mathlib.Omega.{arith}
+use borrow.Author.Needs.{needs}
+use Rattle.lent.specs.Bytes.{le2}
+use Rattle.lent.specs.Over.{over}
+use Rattle.table.specs.Written.{words}
+use Rattle.cuorfelt.specs.Layout.{waitingStart}
+use Rattle.cuorfelt.proofs.Runs.{two-bytes, all-start, all-step}
+use Rattle.cuorfelt.proofs.layout.put_waiting.Statement.{statement}
+use Rattle.cuorfelt.proofs.layout.put_waiting.Tie as tie
+
+abbrev Inv-loop : tie.InvT-loop
+Inv-loop state₀ counts i₀ state i = (i ≤ 16) × (length state ≡ length state₀) × (state ≡ over state₀ waitingStart (words (take i counts)))
+
+abbrev μ-loop : tie.MeasureT-loop
+μ-loop state₀ counts i₀ state i = 16 - i
+
+loop-holds : tie.Need-loop-holds Inv-loop μ-loop
+loop-holds c = (omega arith, refl, all-start two-bytes (now (c .before .args .state)) (c .before .args .t2) waitingStart)
+
+mul-put-u16 : tie.Need-mul-put-u16 Inv-loop μ-loop
+mul-put-u16 c = search needs
+
+add-put-u16 : tie.Need-add-put-u16 Inv-loop μ-loop
+add-put-u16 c = search needs
+
+mul-put-u16-2 : tie.Need-mul-put-u16-2 Inv-loop μ-loop
+mul-put-u16-2 c = search needs
+
+array-read-put-u16 : tie.Need-array-read-put-u16 Inv-loop μ-loop
+array-read-put-u16 c = search needs
+
+put-u16-requires : tie.Need-put-u16-requires Inv-loop μ-loop
+put-u16-requires c κs = search needs
+
+add-i : tie.Need-add-i Inv-loop μ-loop
+add-i c = search needs
+
+loop-less : tie.Need-loop-less Inv-loop μ-loop
+loop-less c = search needs
+
+loop-again : tie.Need-loop-again Inv-loop μ-loop
+loop-again c =
+    let a = c .before .before .before .before .before .before .before .args in
+    let l = c .before .before .before .before .before .loop in
+    let sixteen : length (a .t2) ≡ 16 = search needs in (
+      omega arith,
+      c .before .before .put-u16 .kept .0 ∙ l .inv .1,
+      c .before .before .put-u16 .ensures
+          ∙ ap (λ (b : List ℕ). over b (waitingStart + 2 * l .i) (le2 (getD (a .t2) (l .i) 0))) (l .inv .2)
+          ∙ all-step two-bytes (now (a .state)) (a .t2) waitingStart (l .i) (omega arith) (omega arith),
+    )
+
+same-length : tie.Need-same-length Inv-loop μ-loop
+same-length c = c .before .loop .inv .1
+
+returns : tie.Need-returns Inv-loop μ-loop
+returns c =
+    let a = c .before .before .before .args in
+    let l = c .before .loop in
+    let sixteen : length (a .t2) ≡ 16 = search needs in
+    (l .inv .2 ∙ ap (λ (xs : List ℕ). over (now (a .state)) waitingStart (words xs)) (take-all (l .i) (a .t2) (omega arith)), sixteen)
+
+pub put-waiting-spec : {M : Type 1} → statement M
+put-waiting-spec =
+    tie.close
+    (tie.spec
+    Inv-loop
+    μ-loop
+    loop-holds
+    mul-put-u16
+    add-put-u16
+    mul-put-u16-2
+    array-read-put-u16
+    put-u16-requires
+    add-i
+    loop-less
+    loop-again
+    same-length
+    returns)
