@@ -1,6 +1,5 @@
 -- In a history within the curves no tick is refused, so the run of the tick is the run of its effect.
 --   window-sum         a window's sum is the difference of two counts
---   named-no-head      a callback that another names is no head
 --   activatedTo        activations of the heads of chains, before a time
 --   pure, pure-runs    the counts of the run without refusals, and that they are a Run
 --   Agree, within      where the two runs agree so far, the history is within the curves for both
@@ -13,24 +12,29 @@ use mathlib.Core.List.{List}
 use Prim.Native.Nat.{ℕ, zero, suc, _+_, _*_, _-_, _≤_, _<_}
 use native.Mathlib.Nat.{le-refl, add-zero, add-suc, eq-or-lt-of-le}
 use native.Mathlib.Omega.{arith}
-use lib.Dec.{T, T-not, eqb, ltb, leb, eqb→eq, leb→le, lt→ltb}
+use lib.Dec.{T, T-not, eqb, ltb, leb, leb→le, lt→ltb}
 use lib.ListN.{length, List·getD-eq-default}
 use Rattle.masks.specs.Mask.{has}
 use Rattle.masks.proofs.Slots.{has-zero}
 use Rattle.curves.specs.Sum.{sum, given}
 use Rattle.curves.specs.Least.{lowest}
-use Rattle.curves.proofs.SumLaws.{sum-same, sum-none, sum-part, le-or-lt}
+use Rattle.curves.proofs.SumLaws.{sum-same, sum-none, le-or-lt}
 use Rattle.curves.proofs.LeastLaws.{lowest-hit}
+use Rattle.curves.proofs.EveryLaws.{holds}
+use Rattle.curves.proofs.WalkLaws.{rank}
 use Rattle.table.specs.declared.Table.{Table}
 use Rattle.table.specs.Numbers.{places}
-use Rattle.table.specs.Links.{linked, named, isHead, headOf}
+use Rattle.table.specs.Values.{nextOf}
+use Rattle.table.specs.Links.{linked, isHead, headOf}
+use Rattle.table.proofs.Sound.{Sound}
+use Rattle.table.proofs.Heads.{head-unfed, head-lt, head-self, head-is-head, rank-up}
 use Rattle.busy_window.specs.Counts.{Counts, Quiet, Busy}
 use Rattle.busy_window.specs.Run.{Run}
 use Rattle.busy_window.specs.Within.{Within}
 use Rattle.busy_window.specs.Flow.{fed, counts}
 use Rattle.busy_window.proofs.Busy.{shorter, depth}
 use Rattle.busy_window.proofs.Flow.{runs, behind}
-use Rattle.busy_window.proofs.Chain.{given-yes, given-no, chain-in}
+use Rattle.busy_window.proofs.Chain.{given-no, chain-in}
 use Rattle.executor.specs.declared.Machine.{Machine}
 use Rattle.executor.specs.declared.Ticked.{Ticked}
 use Rattle.executor.specs.Numbers.{mostTicks, mostWaiting}
@@ -38,6 +42,7 @@ use Rattle.executor.specs.Reply.{callbackOf, finishedOf}
 use Rattle.executor.specs.State.{fresh, waitingOf}
 use Rattle.executor.specs.Tick.{foreign, nextActivated, full}
 use Rattle.sheet.specs.Sheet.{arrivalsOf, costOf, supplyOf, windowOf}
+use Rattle.sheet.proofs.TableLaws.{sound-rising}
 use Rattle.guarantee.specs.History.{Tick, Said, said, ticked, replies, tickAt, saidAt, over-window, releasedBy, activatedAt, startsAt}
 use Rattle.guarantee.specs.Within.{WithinCurves}
 use Rattle.guarantee.proofs.Lists
@@ -47,7 +52,7 @@ use Rattle.guarantee.proofs.Step.{Valid}
 use Rattle.guarantee.proofs.Faults.{faultless, tick-is, not-refused}
 use Rattle.guarantee.proofs.Ticks
 use Rattle.guarantee.proofs.Ticks.{before, at, effected, events, states}
-use Rattle.guarantee.proofs.Ground.{Sound, Covered}
+use Rattle.guarantee.proofs.Ground.{Ground, chains, leads}
 
 -- ---- windows
 
@@ -57,16 +62,6 @@ window-sum f t zero = rw add-zero (sym (add-zero _))
 window-sum f t (suc d) = rw add-suc (omega (arith, window-sum f t d))
 
 -- ---- heads
-
--- a callback that another names is no head
-pub named-no-head : (tb : Table) (p i : ℕ) → p < tb .count → T (linked tb p i) → ¬ (T (isHead tb i))
-unfolding isHead named
-named-no-head tb p i l x y = omega (
-  arith,
-  eqb→eq (sum (tb .count) (λ q. given (linked tb q i) 1)) 0 y,
-  sum-part (λ q. given (linked tb q i) 1) (tb .count) p l,
-  given-yes (linked tb p i) 1 x,
-)
 
 -- at a head, an activation is a bit of the mask
 pub head-activated : (tb : Table) (h : List Tick) (r : List Said) (i t : ℕ) → T (isHead tb i) → activatedAt tb h r i t ≡ has ((tickAt h t) .mask) i
@@ -89,7 +84,7 @@ given-times false x = omega arith
 -- the curve of a chain is that of its head
 chain-arrivals : (tb : Table) → Sound tb → (i : ℕ) → i < tb .count → arrivalsOf tb (headOf tb i) ≡ arrivalsOf tb i
 unfolding arrivalsOf
-chain-arrivals tb so i l = rw (so .chains .top (headOf tb i) (so .top i l .0) (λ p k x. named-no-head tb p (headOf tb i) k x (so .top i l .1)))
+chain-arrivals tb so i l = rw (head-self tb (headOf tb i) (head-is-head tb so i l))
 
 -- activations of the head of i's chain at times before t
 abbrev pub activatedTo : Table → List Tick → ℕ → ℕ → ℕ
@@ -99,7 +94,7 @@ activatedTo tb h i t = sum t (λ u. given (has ((tickAt h u) .mask) (headOf tb i
 unfoldable pub read : Table → List Tick → (ℕ → Said) → Counts
 read tb h s = counts (activatedTo tb h) (events h s)
 
-module _ (tb : Table) (so : Sound tb) (cov : Covered tb) (h : List Tick) (short : length h ≤ mostTicks)
+module _ (tb : Table) (ground : Ground tb) (h : List Tick) (short : length h ≤ mostTicks)
     (w : WithinCurves tb h (replies (fresh tb) h)) where
   abbrev n : ℕ
   n = tb .count
@@ -128,11 +123,11 @@ module _ (tb : Table) (so : Sound tb) (cov : Covered tb) (h : List Tick) (short 
     where
       go : (length h ≤ u) ⊎ (u < length h) → given (has ((tickAt h u) .mask) i) 1 ≡ 0
       go (inl l) = ap (λ (b : Bool). given b 1) (none-past i u l)
-      go (inr l) = given-no (has ((tickAt h u) .mask) i) 1 (λ y. named-no-head tb p i hp x (w .heads i u l y .1))
+      go (inr l) = given-no (has ((tickAt h u) .mask) i) 1 (λ y. head-unfed tb i (holds _ (w .heads i u l y .1)) p hp x)
 
   flows : (i t : ℕ) → i < n → activatedTo tb h i t ≡ sum t ((events h free) .arrives i) + fed (linked tb) n (λ p. activatedTo tb h p t) i
   unfolding events
-  flows i t l = chain-in n (linked tb) (headOf tb) (λ i u. given (has ((tickAt h u) .mask) i) 1) (so .chains) heads-only i t l
+  flows i t l = chain-in n (linked tb) (headOf tb) (λ i u. given (has ((tickAt h u) .mask) i) 1) (chains tb (ground .sound)) heads-only i t l
 
   abbrev pub pure : Counts
   pure = read tb h free
@@ -144,8 +139,8 @@ module _ (tb : Table) (so : Sound tb) (cov : Covered tb) (h : List Tick) (short 
 
   pub pure-runs : Run n (length h) 0 pure
   unfolding read
-  pure-runs = runs n (length h) (linked tb) (events h free) (states (before effected m₀ h)) (Ticks.local tb (so .sane) h masked (w .offers))
-      (activatedTo tb h) flows (so .rank) (so .ranked) 0 no-other
+  pure-runs = runs n (length h) (linked tb) (events h free) (states (before effected m₀ h)) (Ticks.local tb (ground .sound) h masked (w .offers))
+      (activatedTo tb h) flows (rank (nextOf tb) n) (rank-up tb (ground .sound)) 0 no-other
 
   -- ---- where the two runs agree
 
@@ -172,9 +167,9 @@ module _ (tb : Table) (so : Sound tb) (cov : Covered tb) (h : List Tick) (short 
     arith,
     window-sum (λ u. given (has ((tickAt h u) .mask) (headOf tb i)) 1) t d,
     sum-same (λ u. given (activatedAt tb h (replies m₀ h) (headOf tb i) (t + u)) 1) (λ u. given (has ((tickAt h (t + u)) .mask) (headOf tb i)) 1) d
-        (λ u _. ap (λ (b : Bool). given b 1) (head-activated tb h (replies m₀ h) (headOf tb i) (t + u) (so .top i l .1))),
-    w .arrivals (headOf tb i) t d (so .top i l .0) (so .top i l .1) k,
-    ap (λ (f : ℕ → ℕ). f d) (chain-arrivals tb so i l),
+        (λ u _. ap (λ (b : Bool). given b 1) (head-activated tb h (replies m₀ h) (headOf tb i) (t + u) (leads tb (ground .sound) i l))),
+    w .arrivals (headOf tb i) t d (head-lt tb i l) (leads tb (ground .sound) i l) k,
+    ap (λ (f : ℕ → ℕ). f d) (chain-arrivals tb (ground .sound) i l),
   )
 
   supply : (t d : ℕ) → t + d ≤ length h → sum t (λ u. given ((tickAt h u) .supplied) 1) + supplyOf tb d ≤ sum (t + d) (λ u. given ((tickAt h u) .supplied) 1)
@@ -224,7 +219,7 @@ module _ (tb : Table) (so : Sound tb) (cov : Covered tb) (h : List Tick) (short 
   W = windowOf tb
 
   small : (i : ℕ) → i < n → arrivalsOf tb i W ≤ mostWaiting
-  small i l = omega (arith, cov .small (headOf tb i) (so .top i l .0) (so .top i l .1), ap (λ (f : ℕ → ℕ). f W) (chain-arrivals tb so i l))
+  small i l = omega (arith, ground .small (headOf tb i) (head-lt tb i l) (head-is-head tb (ground .sound) i l), ap (λ (f : ℕ → ℕ). f W) (chain-arrivals tb (ground .sound) i l))
 
   -- what waits before tick t, with what it adds
   room : (t : ℕ) → t < length h → Agree t → (j : ℕ) → j < n
@@ -233,11 +228,11 @@ module _ (tb : Table) (so : Sound tb) (cov : Covered tb) (h : List Tick) (short 
   room t l g j k = omega (
     arith,
     small j k,
-    Ticks.did tb (so .sane) h masked (w .offers) t l .queue j k,
-    rw (Ticks.next effected m₀ h t l) at (behind n (length h) (linked tb) (events h free) (states (before effected m₀ h)) (Ticks.local tb (so .sane) h masked (w .offers))
-        (activatedTo tb h) flows (so .rank) (so .ranked) (suc (so .rank j)) j (suc t) (le-refl _) k l),
+    Ticks.did tb (ground .sound) h masked (w .offers) t l .queue j k,
+    rw (Ticks.next effected m₀ h t l) at (behind n (length h) (linked tb) (events h free) (states (before effected m₀ h)) (Ticks.local tb (ground .sound) h masked (w .offers))
+        (activatedTo tb h) flows (rank (nextOf tb) n) (rank-up tb (ground .sound)) (suc (rank (nextOf tb) n j)) j (suc t) (le-refl _) k l),
     depth n (length h) pure (arrivalsOf tb) (costOf tb) (supplyOf tb) t (omega arith) 0 (shorter n (length h) t 0 pure (omega arith) pure-runs)
-        (within t (omega arith) g) (so .rising) W (cov .window) (cov .supplied) j t k (le-refl t) l,
+        (within t (omega arith) g) (sound-rising tb (ground .sound)) W (ground .window) (ground .supplied) j t k (le-refl t) l,
   )
 
   module _ (t : ℕ) (l : t < length h) (g : Agree t) where
@@ -248,7 +243,7 @@ module _ (tb : Table) (so : Sound tb) (cov : Covered tb) (h : List Tick) (short 
     x = tickAt h t
 
     valid : Valid tb m
-    valid = Ticks.stays tb (so .sane) h masked (w .offers) t (omega arith)
+    valid = Ticks.stays tb (ground .sound) h masked (w .offers) t (omega arith)
 
     few : (j : ℕ) → j < places → waitingOf m j ≤ mostWaiting
     few j k = go (le-or-lt n j)
@@ -277,7 +272,7 @@ module _ (tb : Table) (so : Sound tb) (cov : Covered tb) (h : List Tick) (short 
     unfolding nextActivated hit
     adds-next j =
         ap (λ (y : Table). given (eqb (nextActivated y ((free t) .reply)) (suc j)) 1) (valid .held)
-        ∙ sym (Lists.fed-next tb n (finishedOf ((free t) .reply)) j (Ticks.did tb (so .sane) h masked (w .offers) t l .whose))
+        ∙ sym (Lists.fed-next tb n (finishedOf ((free t) .reply)) j (Ticks.did tb (ground .sound) h masked (w .offers) t l .whose))
 
     -- 21
     none-full : full m (x .mask) (x .supplied) (x .cost) ≡ 0
@@ -310,8 +305,8 @@ module _ (tb : Table) (so : Sound tb) (cov : Covered tb) (h : List Tick) (short 
     pub next-agrees : ticked m x ≡ effected m x
     next-agrees =
         tick-is m (x .mask) (x .supplied) (x .cost)
-        (not-refused m (x .mask) (x .supplied) (x .cost) (faultless tb m valid few (so .faultless))
-        (omega (arith, Ticks.ticked-count tb (so .sane) h masked (w .offers) t (omega arith)))
+        (not-refused m (x .mask) (x .supplied) (x .cost) (faultless tb m valid few (ground .faultless))
+        (omega (arith, Ticks.ticked-count tb (ground .sound) h masked (w .offers) t (omega arith)))
         (w .offers t l)
         (ap (λ (y : Table). foreign y (x .mask)) (valid .held) ∙ none-foreign)
         none-full)

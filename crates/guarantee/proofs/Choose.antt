@@ -20,6 +20,7 @@ use Rattle.table.specs.declared.Table.{Table}
 use Rattle.table.specs.Numbers.{timer, client}
 use Rattle.table.specs.Values.{kindOf}
 use Rattle.table.specs.Priority.{foremostFrom, foremost}
+use Rattle.table.proofs.Sound.{Sound}
 use Rattle.executor.specs.declared.Choice.{Choice}
 use Rattle.executor.specs.State.{isPolled}
 use Rattle.executor.specs.Effect.{waits, choice, gatheredOf, pollingPoint, choose}
@@ -33,10 +34,6 @@ both-and true b t r = r
 both-and false b t r = t
 
 module _ (t : Table) where
-  -- the kinds are those of document 01
-  abbrev pub Kinds : Type 0
-  Kinds = (i : ℕ) → i < t .count → (timer ≤ kindOf t i) × (kindOf t i ≤ client)
-
   -- whoever is found passes
   foremost-from-hit : (p : ℕ → Bool) (f kind i : ℕ) → foremostFrom t p f kind ≡ suc i → (i < t .count) × T (p i)
   unfolding foremostFrom
@@ -71,8 +68,8 @@ module _ (t : Table) where
   pub foremost-hit : (p : ℕ → Bool) (i : ℕ) → foremost t p ≡ suc i → (i < t .count) × T (p i)
   foremost-hit p i e = foremost-from-hit p client timer i e
 
-  pub foremost-some : Kinds → (p : ℕ → Bool) (j : ℕ) → j < t .count → T (p j) → foremost t p ≢ 0
-  foremost-some k p j l h = foremost-from-some p client timer j l (k j l .0) (omega (arith, k j l .1)) h
+  pub foremost-some : Sound t → (p : ℕ → Bool) (j : ℕ) → j < t .count → T (p j) → foremost t p ≢ 0
+  foremost-some so p j l h = foremost-from-some p client timer j l (so .kind-from j l) (omega (arith, so .kind-to j l)) h
 
   -- every callback in the cache is one of the table's, waits, and is polled
   abbrev pub Cached : ℕ → List ℕ → Type 0
@@ -96,18 +93,18 @@ module _ (t : Table) where
   gathered-some ws j l h w =
       subst T (sym (gather-in (λ i. isPolled t i && waits ws i) (t .count) j l)) (both-and (isPolled t j) (waits ws j) h (lt→ltb 0 (getD ws j 0) w))
 
-  pub chooses : Kinds → (c : ℕ) (ws : List ℕ) → Cached c ws → Chosen ws (choose t c ws)
+  pub chooses : Sound t → (c : ℕ) (ws : List ℕ) → Cached c ws → Chosen ws (choose t c ws)
   unfolding choose
-  chooses kinds c ws good = go (foremost t unpolled) refl (foremost t (has c)) refl
+  chooses so c ws good = go (foremost t unpolled) refl (foremost t (has c)) refl
     where
       unpolled : ℕ → Bool
       unpolled i = not (isPolled t i) && waits ws i
 
       -- where no unpolled callback waits, a poll finds whoever waits
       found : (j : ℕ) → j < t .count → 0 < getD ws j 0 → foremost t unpolled ≡ 0 → (b : Bool) → isPolled t j ≡ b → foremost t (has (gatheredOf t ws)) ≢ 0
-      found j l w z true q = foremost-some kinds (has (gatheredOf t ws)) j l (gathered-some ws j l (subst T (sym q) tt) w)
+      found j l w z true q = foremost-some so (has (gatheredOf t ws)) j l (gathered-some ws j l (subst T (sym q) tt) w)
       found j l w z false q =
-          absurd (foremost-some kinds unpolled j l (both-and (not (isPolled t j)) (waits ws j) (subst (λ (b : Bool). T (not b)) (sym q) tt) (lt→ltb 0 (getD ws j 0) w)) z)
+          absurd (foremost-some so unpolled j l (both-and (not (isPolled t j)) (waits ws j) (subst (λ (b : Bool). T (not b)) (sym q) tt) (lt→ltb 0 (getD ws j 0) w)) z)
 
       go : (x : ℕ) → foremost t unpolled ≡ x → (y : ℕ) → foremost t (has c) ≡ y
           → Chosen ws (elim x [

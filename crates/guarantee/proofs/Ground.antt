@@ -1,35 +1,92 @@
--- What the reader and the analyser have seen to, of a table that they accept: all that the argument asks of it.
-use mathlib.Core.Path.{_≡_}
-use mathlib.Core.Bool.{false}
+-- What reader and analyser have seen to, of a table that both accept: all that the argument asks of it.
+--   Ground, ground   the table is sound and its sheet covers every offset, where the analyser accepts the bytes
+--   chains, leads    the chains of a sound table, as the busy-window argument takes them
+use mathlib.Core.Path.{_≡_, refl, ap, ap₂, _∙_}
+use mathlib.Core.Logic.{_≢_}
+use mathlib.Core.Bool.{Bool, true, false, not, _&&_, _||_}
+use mathlib.Core.List.{List}
 use Prim.Native.Nat.{ℕ, _+_, _≤_, _<_}
-use lib.Dec.{T}
-use Rattle.curves.specs.Demand.{demand, limit, Rising}
+use native.Mathlib.Omega.{arith}
+use lib.Dec.{T, eqb, leb}
+use borrow.Author.Tests.{leb-true}
+use Rattle.curves.specs.Demand.{demand, limit}
+use Rattle.curves.specs.Every.{every}
+use Rattle.curves.proofs.EveryLaws.{T-holds, some-none}
+use Rattle.table.specs.declared.Callback.{Callback}
+use Rattle.table.specs.declared.Refusal.{Refusal}
 use Rattle.table.specs.declared.Table.{Table}
+use Rattle.table.specs.Numbers.{places}
+use Rattle.table.specs.Values.{blank, callbackAt, horizonOf}
 use Rattle.table.specs.Links.{linked, isHead, headOf}
+use Rattle.table.specs.Format.{tableAt, readFault}
+use Rattle.table.proofs.Sound.{Sound}
+use Rattle.table.proofs.Heads.{fed-once, top, down, head-is-head}
+use Rattle.table.proofs.Accepted.{read-accepted, read-sound, read-blank, read-count}
 use Rattle.busy_window.specs.Bound.{Covers}
 use Rattle.busy_window.specs.Chain.{Chains}
 use Rattle.executor.specs.Numbers.{mostWaiting}
-use Rattle.executor.specs.State.{tableFault}
-use Rattle.sheet.specs.Sheet.{arrivalsOf, costOf, supplyOf, windowOf, boundOf}
-use Rattle.guarantee.proofs.Step.{Sane}
+use Rattle.executor.specs.State.{isBlank, tableFault}
+use Rattle.sheet.specs.Sheet.{arrivalsOf, costOf, supplyOf, windowOf, boundOf, analysisFault}
+use Rattle.sheet.proofs.WindowLaws.{window-settles, bound-covers}
+use Rattle.sheet.proofs.TableLaws.{sound-rising}
+use Rattle.sheet.proofs.Accepted.{analysed-read, analysed-sheet, some-window, few-arrivals}
 
--- a table that the reader accepts
-pub record Sound (t : Table) : Type 0 where
-  pub sane : Sane t
+pub record Ground (t : Table) : Type 0 where
+  -- a table that the reader gives, which no tick refuses with 29
+  pub sound : Sound t
   pub faultless : tableFault t ≡ false
-  -- chains without loops: each callback is named once at most, the head of a chain is a head, and a rank rises along it
-  pub chains : Chains (t .count) (linked t) (headOf t)
-  pub top : (i : ℕ) → i < t .count → (headOf t i < t .count) × T (isHead t (headOf t i))
-  pub rank : ℕ → ℕ
-  pub ranked : (p i : ℕ) → p < t .count → i < t .count → T (linked t p i) → rank p < rank i
-  -- curves that rise
-  pub rising : Rising (t .count) (arrivalsOf t) (costOf t)
-
--- a table that the analyser accepts
-pub record Covered (t : Table) : Type 0 where
   -- a window that the supply covers, within which no head activates more than 255 times
   pub window : 0 < windowOf t
   pub supplied : demand (t .count) (costOf t) (λ i. arrivalsOf t i (windowOf t)) + 0 ≤ supplyOf t (windowOf t)
-  pub small : (i : ℕ) → i < t .count → T (isHead t i) → arrivalsOf t i (windowOf t) ≤ mostWaiting
+  pub small : (i : ℕ) → i < t .count → isHead t i ≡ true → arrivalsOf t i (windowOf t) ≤ mostWaiting
   -- and bounds that cover every offset
   pub covers : (i : ℕ) → i < t .count → Covers (t .count) (costOf t) (supplyOf t) 0 (limit (arrivalsOf t) i) (windowOf t) (boundOf t i)
+
+module _ (t : Table) (so : Sound t) where
+  pub chains : Chains (t .count) (linked t) (headOf t)
+  chains = record { once = fed-once t so; top = λ i _. top t i; down = down t so }
+
+  -- the head of a chain is a head
+  pub leads : (i : ℕ) → i < t .count → T (isHead t (headOf t i))
+  leads i l = T-holds _ (head-is-head t so i l)
+
+-- ---- bytes that the analyser accepts
+
+blank-is : isBlank blank ≡ true
+unfolding isBlank every
+blank-is = refl
+
+-- the table that the reader gives is accepted by its values, and blank beyond n
+table-right : (b : List ℕ) → (readFault b) .number ≡ 0 → tableFault (tableAt b) ≡ false
+unfolding tableFault
+table-right b ok =
+    ap₂ _||_ (ap (λ (r : Refusal). not (eqb (r .number) 0)) (read-accepted b ok))
+    (some-none (λ i. leb ((tableAt b) .count) i && not (isBlank (callbackAt (tableAt b) i))) places beyond)
+  where
+    beyond : (i : ℕ) → i < places → (leb ((tableAt b) .count) i && not (isBlank (callbackAt (tableAt b) i))) ≡ false
+    beyond i h = go (leb ((tableAt b) .count) i) refl
+      where
+        go : (c : Bool) → leb ((tableAt b) .count) i ≡ c → (c && not (isBlank (callbackAt (tableAt b) i))) ≡ false
+        go false e = refl
+        go true e =
+            ap (λ (c : Callback). not (isBlank c)) (read-blank b ok i (omega (arith, leb-true ((tableAt b) .count) i e, read-count b ok)) h)
+            ∙ ap not blank-is
+
+pub ground : (b : List ℕ) (k : ℕ) → (analysisFault b k) .number ≡ 0 → Ground (tableAt b)
+unfolding windowOf boundOf
+ground b k ok =
+    let t : Table = tableAt b in
+    let so : Sound (tableAt b) = read-sound b (analysed-read b k ok) in
+    let some : windowOf (tableAt b) ≢ 0 = some-window (tableAt b) (analysed-sheet b k ok) in
+    let w = window-settles (t .count) (arrivalsOf t) (costOf t) (supplyOf t) (horizonOf t) some in
+    record {
+      sound = so;
+      faultless = table-right b (analysed-read b k ok);
+      window = w .0;
+      supplied = omega (arith, w .2);
+      small = few-arrivals t (analysed-sheet b k ok);
+      covers = λ i l A h. (
+          let c = bound-covers (t .count) (arrivalsOf t) (costOf t) (supplyOf t) (horizonOf t) (sound-rising t so) i A h in
+          (c .0, omega (arith, c .1), c .2)
+          );
+    }

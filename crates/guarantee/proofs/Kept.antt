@@ -21,6 +21,7 @@ use Rattle.curves.proofs.EveryLaws.{holds, never-both}
 use Rattle.table.specs.declared.Table.{Table}
 use Rattle.table.specs.Values.{nextOf}
 use Rattle.table.specs.Links.{linked, isHead, headOf}
+use Rattle.table.proofs.Heads.{head-unfed}
 use Rattle.busy_window.specs.Bound.{Covers}
 use Rattle.busy_window.specs.Flow.{fed, counts}
 use Rattle.busy_window.proofs.Busy.{late}
@@ -32,6 +33,7 @@ use Rattle.executor.specs.Numbers.{mostTicks}
 use Rattle.executor.specs.Reply.{callbackOf, instanceOf, finishedOf}
 use Rattle.executor.specs.State.{fresh, waitingOf, finishedAt}
 use Rattle.sheet.specs.Sheet.{arrivalsOf, costOf, supplyOf, windowOf}
+use Rattle.sheet.proofs.TableLaws.{sound-rising}
 use Rattle.guarantee.specs.History.{Tick, Said, said, replies, tickAt, saidAt, completesAt, releasesAt, releasedBy, activatedAt, activations, activation, startsAt, instanceStarts, completions, completion}
 use Rattle.guarantee.specs.Within.{WithinCurves}
 use Rattle.guarantee.proofs.Lists
@@ -39,7 +41,7 @@ use Rattle.guarantee.proofs.Lists.{hit}
 use Rattle.guarantee.proofs.Choose.{and-both}
 use Rattle.guarantee.proofs.Ticks
 use Rattle.guarantee.proofs.Ticks.{before, at, effected, events, states}
-use Rattle.guarantee.proofs.Ground.{Sound, Covered}
+use Rattle.guarantee.proofs.Ground.{Ground, leads}
 use Rattle.guarantee.proofs.Calm
 use Rattle.guarantee.proofs.Calm.{activatedTo, read, head-activated}
 
@@ -71,17 +73,13 @@ unfolding sum
 fed-sums feeds n i g zero = sym (fed-zero feeds n i)
 fed-sums feeds n i g (suc t) = omega (arith, fed-sums feeds n i g t, fed-add feeds n (λ p. sum t (g p)) (λ p. g p t) i)
 
--- nobody names a head
-head-unfed : (tb : Table) (i : ℕ) → T (isHead tb i) → (p : ℕ) → p < tb .count → ¬ (T (linked tb p i))
-head-unfed tb i x p l y = Calm.named-no-head tb p i l y x
-
 -- a completion of index x releases i where x names i
 releases-hit : (tb : Table) (i x : ℕ) → given (elim x [ zero ↦ false | suc p ↦ linked tb p i ]) 1 ≡ hit (elim x [ zero ↦ 0 | suc p ↦ nextOf tb p ]) i
 unfolding hit linked
 releases-hit tb i zero = sym (Lists.hit-none i)
 releases-hit tb i (suc p) = refl
 
-module _ (tb : Table) (so : Sound tb) (cov : Covered tb) (h : List Tick) (short : length h ≤ mostTicks)
+module _ (tb : Table) (ground : Ground tb) (h : List Tick) (short : length h ≤ mostTicks)
     (w : WithinCurves tb h (replies (fresh tb) h)) where
   abbrev n : ℕ
   n = tb .count
@@ -93,7 +91,7 @@ module _ (tb : Table) (so : Sound tb) (cov : Covered tb) (h : List Tick) (short 
   free t = said (at effected (fresh tb) h t)
 
   same : (t u : ℕ) → t ≤ length h → u < t → saidAt r u ≡ free u
-  same = Calm.same tb so cov h short w
+  same = Calm.same tb ground h short w
 
   masked : (i t : ℕ) → t < length h → T (has ((tickAt h t) .mask) i) → i < n
   masked i t l x = w .heads i t l x .0
@@ -102,7 +100,7 @@ module _ (tb : Table) (so : Sound tb) (cov : Covered tb) (h : List Tick) (short 
 
   pub answers : (t : ℕ) → t < length h → (a : Answer) × ((saidAt r t) .reply ≡ Answered a)
   answers t l =
-      let d = Ticks.did tb (so .sane) h masked (w .offers) t l .answers in
+      let d = Ticks.did tb (ground .sound) h masked (w .offers) t l .answers in
       (d .0, ap (λ (x : Said). x .reply) (same (suc t) t l (le-refl _)) ∙ d .1)
 
   -- ---- no instance starts before its activation
@@ -121,7 +119,7 @@ module _ (tb : Table) (so : Sound tb) (cov : Covered tb) (h : List Tick) (short 
       each u k =
           ap (λ (x : Said). given (elim (finishedOf (x .reply)) [ zero ↦ false | suc p ↦ linked tb p i ]) 1) (same t u l k)
           ∙ releases-hit tb i (finishedOf ((free u) .reply))
-          ∙ sym (Lists.fed-next tb n (finishedOf ((free u) .reply)) i (Ticks.did tb (so .sane) h masked (w .offers) u (omega arith) .whose))
+          ∙ sym (Lists.fed-next tb n (finishedOf ((free u) .reply)) i (Ticks.did tb (ground .sound) h masked (w .offers) u (omega arith) .whose))
 
   -- a release is an activation one tick later
   released-in : (i t : ℕ) → t ≤ length h → sum (suc t) (λ u. given (releasedBy tb r i u) 1) ≡ fed (linked tb) n (λ p. done p t) i
@@ -136,7 +134,7 @@ module _ (tb : Table) (so : Sound tb) (cov : Covered tb) (h : List Tick) (short 
       go : (b : Bool) → isHead tb i ≡ b
           → sum (suc t) (λ u. given (cond (isHead tb i) (has ((tickAt h u) .mask) i) (releasedBy tb r i u)) 1)
           ≡ sum (suc t) (λ u. given (has ((tickAt h u) .mask) i) 1) + fed (linked tb) n (λ p. done p t) i
-      go true e = rw (e, fed-none (linked tb) i (λ p. done p t) n (head-unfed tb i (subst T (sym e) tt)), add-zero)
+      go true e = rw (e, fed-none (linked tb) i (λ p. done p t) n (head-unfed tb i e), add-zero)
       go false e = rw (e, sum-none (λ u. given (has ((tickAt h u) .mask) i) 1) (suc t) absent, zero-add) (released-in i t (omega arith))
         where
           absent : (u : ℕ) → u < suc t → given (has ((tickAt h u) .mask) i) 1 ≡ 0
@@ -146,7 +144,7 @@ module _ (tb : Table) (so : Sound tb) (cov : Covered tb) (h : List Tick) (short 
   flow-in : (i t : ℕ) → i < n → t ≤ length h → waitingOf (before effected (fresh tb) h t) i + done i t + given (has ((tickAt h t) .mask) i) 1
       ≡ sum (suc t) (λ u. given (has ((tickAt h u) .mask) i) 1) + fed (linked tb) n (λ p. done p t) i
   unfolding sum events states
-  flow-in i t l k = omega (arith, inflow n (length h) (linked tb) (events h free) (states (before effected (fresh tb) h)) (Ticks.local tb (so .sane) h masked (w .offers)) i t l k)
+  flow-in i t l k = omega (arith, inflow n (length h) (linked tb) (events h free) (states (before effected (fresh tb) h)) (Ticks.local tb (ground .sound) h masked (w .offers)) i t l k)
 
   pub starts-late : (i k t : ℕ) → i < n → t < length h → instanceStarts r i k t → k ≤ activations tb h r i (suc t)
   unfolding instanceStarts startsAt
@@ -156,7 +154,7 @@ module _ (tb : Table) (so : Sound tb) (cov : Covered tb) (h : List Tick) (short 
     ap (λ (y : Said). instanceOf (y .reply)) now,
     named-in .1,
     named-in .2,
-    Ticks.done-count tb (so .sane) h masked (w .offers) i t (omega (arith, so .sane .few)) (omega arith),
+    Ticks.done-count tb (ground .sound) h masked (w .offers) i t (omega (arith, ground .sound .few)) (omega arith),
     arrived-or-waiting,
     activations-in i t b,
   )
@@ -166,7 +164,7 @@ module _ (tb : Table) (so : Sound tb) (cov : Covered tb) (h : List Tick) (short 
 
       named-in : (i < n) × (0 < waitingOf (before effected (fresh tb) h t) i + given (has ((tickAt h t) .mask) i) 1)
           × (instanceOf ((free t) .reply) ≡ suc (finishedAt (before effected (fresh tb) h t) i))
-      named-in = Ticks.did tb (so .sane) h masked (w .offers) t b .names i
+      named-in = Ticks.did tb (ground .sound) h masked (w .offers) t b .names i
           (sym (ap (λ (y : Said). callbackOf (y .reply)) now)
           ∙ eqb→eq (callbackOf ((saidAt r t) .reply)) (suc i) (and-both ((saidAt r t) .started) (eqb (callbackOf ((saidAt r t) .reply)) (suc i)) (x .0) .1))
 
@@ -179,7 +177,7 @@ module _ (tb : Table) (so : Sound tb) (cov : Covered tb) (h : List Tick) (short 
   -- the k-th activation of the head of i's chain, as counts
   activated-is : (i t : ℕ) → i < n → activations tb h r (headOf tb i) t ≡ activatedTo tb h i t
   unfolding activations
-  activated-is i t l = sum-same _ _ t (λ u _. ap (λ (b : Bool). given b 1) (head-activated tb h r (headOf tb i) u (so .top i l .1)))
+  activated-is i t l = sum-same _ _ t (λ u _. ap (λ (b : Bool). given b 1) (head-activated tb h r (headOf tb i) u (leads tb (ground .sound) i l)))
 
   completions-same : (i t : ℕ) → t ≤ length h → completions r i t ≡ done i t
   unfolding completions completesAt hit
@@ -197,8 +195,8 @@ module _ (tb : Table) (so : Sound tb) (cov : Covered tb) (h : List Tick) (short 
       → Covers n (costOf tb) (supplyOf tb) 0 (limit (arrivalsOf tb) i) (windowOf tb) R → v + R ≤ length h → k ≤ sum (v + R) (λ u. given (completesAt r i u) 1)
   unfolding completions read counts events
   finished-enough i k v R l hv lo hi cover end = rw (completions-same i (v + R) end)
-      (late n (length h) (read tb h free) (arrivalsOf tb) (costOf tb) (supplyOf tb) (length h) (le-refl _) 0 (Calm.pure-runs tb so cov h short w)
-      (Calm.within-all tb so cov h short w) (so .rising) (windowOf tb) (cov .window) (cov .supplied) i v k R l hv lo hi cover end)
+      (late n (length h) (read tb h free) (arrivalsOf tb) (costOf tb) (supplyOf tb) (length h) (le-refl _) 0 (Calm.pure-runs tb ground h short w)
+      (Calm.within-all tb ground h short w) (sound-rising tb (ground .sound)) (windowOf tb) (ground .window) (ground .supplied) i v k R l hv lo hi cover end)
 
   pub in-time : (i k v R : ℕ) → i < n → Covers n (costOf tb) (supplyOf tb) 0 (limit (arrivalsOf tb) i) (windowOf tb) R
       → activation tb h r (headOf tb i) k v → v + R ≤ length h → (t : ℕ) × (t ≤ v + R) × completion r i k t
@@ -206,13 +204,13 @@ module _ (tb : Table) (so : Sound tb) (cov : Covered tb) (h : List Tick) (short 
   in-time i k v R l cover x end = found (reached (completesAt r i) (v + R) k (omega (arith, before-k)) enough)
     where
       bit : has ((tickAt h v) .mask) (headOf tb i) ≡ true
-      bit = sym (head-activated tb h r (headOf tb i) v (so .top i l .1)) ∙ holds _ (x .0)
+      bit = sym (head-activated tb h r (headOf tb i) v (leads tb (ground .sound) i l)) ∙ holds _ (x .0)
 
       in-list : v < length h
       in-list = go (le-or-lt (length h) v)
         where
           go : (length h ≤ v) ⊎ (v < length h) → v < length h
-          go (inl m) = absurd (never-both _ bit (Calm.none-past tb so cov h short w (headOf tb i) v m))
+          go (inl m) = absurd (never-both _ bit (Calm.none-past tb ground h short w (headOf tb i) v m))
           go (inr m) = m
 
       is-k : activatedTo tb h i (suc v) ≡ k

@@ -1,5 +1,4 @@
 -- What one tick does to a state without faults, refusals aside: it keeps the state so, and changes each callback's counts by 0 or 1.
---   Sane             what is asked of the table: as many callbacks as there are places at most, kinds and names as they should be
 --   Valid            a state with none of the faults of number 29, the limit of 255 aside
 --   Worked, works    what step 4 does for the callback that runs
 --   Stepped, steps   what the whole tick does; steps-over: over a table that the state is known to hold
@@ -23,6 +22,7 @@ use Rattle.table.specs.declared.Table.{Table}
 use Rattle.table.specs.Numbers.{places}
 use Rattle.table.specs.Values.{nextOf}
 use Rattle.table.specs.Links.{linked}
+use Rattle.table.proofs.Sound.{Sound}
 use Rattle.busy_window.specs.Flow.{fed}
 use Rattle.busy_window.proofs.Chain.{given-no}
 use Rattle.executor.specs.declared.Answer.{Answer}
@@ -38,13 +38,7 @@ use Rattle.executor.specs.State.{fresh, isPolled, waitingOf, finishedAt}
 use Rattle.executor.specs.Effect.{arrived, activated, after, answered, choose, finishes, continues, worked, begun, served, effect}
 use Rattle.guarantee.proofs.Lists
 use Rattle.guarantee.proofs.Lists.{hit}
-use Rattle.guarantee.proofs.Choose.{Kinds, Cached, Chosen, chooses}
-
--- what a tick asks of the table
-pub record Sane (t : Table) : Type 0 where
-  pub few : t .count ≤ places
-  pub kinds : Kinds t
-  pub names : (i : ℕ) → i < t .count → nextOf t i ≤ t .count
+use Rattle.guarantee.proofs.Choose.{Cached, Chosen, chooses}
 
 -- a state over the table t
 pub record Valid (t : Table) (m : Machine) : Type 0 where
@@ -82,7 +76,7 @@ pub record Worked (m : Machine) (ws : List ℕ) (i u : ℕ) (st : Bool) (o : Tic
   pub starts : o .started ≡ st
   pub answers : (a : Answer) × (o .reply ≡ Answered a)
 
-module _ (m : Machine) (so : Sane (m .table)) (ok : Valid (m .table) m) (ws : List ℕ) (c i u : ℕ) (st po : Bool) (g : ℕ)
+module _ (m : Machine) (so : Sound (m .table)) (ok : Valid (m .table) m) (ws : List ℕ) (c i u : ℕ) (st po : Bool) (g : ℕ)
     (len : length ws ≡ places) (none : (j : ℕ) → m .table .count ≤ j → j < places → getD ws j 0 ≡ 0) (good : Cached (m .table) c ws)
     (l : i < m .table .count) (w : 0 < getD ws i 0) (polled : T (isPolled (m .table) i) → T (has c i)) (small : u ≤ largestCost) where
   abbrev t : Table
@@ -211,7 +205,7 @@ pub record Stepped (t : Table) (m : Machine) (mask : ℕ) (supplied : Bool) (cos
   pub whose : (p : ℕ) → finishedOf (o .reply) ≡ suc p → p < t .count
   pub answers : (a : Answer) × (o .reply ≡ Answered a)
 
-module _ (m : Machine) (so : Sane (m .table)) (ok : Valid (m .table) m) (mask cost : ℕ) (priced : (1 ≤ cost) × (cost ≤ largestCost))
+module _ (m : Machine) (so : Sound (m .table)) (ok : Valid (m .table) m) (mask cost : ℕ) (priced : (1 ≤ cost) × (cost ≤ largestCost))
     (masked : (i : ℕ) → T (has mask i) → i < m .table .count) where
   ws : List ℕ
   ws = arrived mask (m .waiting)
@@ -321,7 +315,7 @@ module _ (m : Machine) (so : Sane (m .table)) (ok : Valid (m .table) m) (mask co
 
   goes-on : (r : ℕ) → m .running ≡ r → Stepped (m .table) m mask true cost
       (elim r [ zero ↦ begun m ws cost (choose (m .table) (m .cache) ws) | suc i ↦ worked m ws (m .cache) i (m .units) false false 0 ])
-  goes-on zero e = begins (choose (m .table) (m .cache) ws) (chooses (m .table) (so .kinds) (m .cache) ws ws-cached) e
+  goes-on zero e = begins (choose (m .table) (m .cache) ws) (chooses (m .table) so (m .cache) ws ws-cached) e
   goes-on (suc i) e = from-work i (m .units) false _ (a .0) b
       (works m so ok ws (m .cache) i (m .units) false false 0 ws-length ws-none ws-cached (a .0) b (a .2) (u .1) (u .0))
       (λ j. rw e (omega arith))
@@ -342,11 +336,11 @@ module _ (m : Machine) (so : Sane (m .table)) (ok : Valid (m .table) m) (mask co
   steps true = goes-on (m .running) refl
 
 -- the same over a table that the state is known to hold
-pub steps-over : (t : Table) (m : Machine) → Sane t → Valid t m → (mask cost : ℕ) → (1 ≤ cost) × (cost ≤ largestCost)
+pub steps-over : (t : Table) (m : Machine) → Sound t → Valid t m → (mask cost : ℕ) → (1 ≤ cost) × (cost ≤ largestCost)
     → ((i : ℕ) → T (has mask i) → i < t .count) → (b : Bool) → Stepped t m mask b cost (effect m mask b cost)
 steps-over t m so ok mask cost priced masked b =
     subst (λ (x : Table). Stepped x m mask b cost (effect m mask b cost)) (ok .held)
-    (steps m (subst Sane back so) (subst (λ (x : Table). Valid x m) back ok) mask cost priced
+    (steps m (subst Sound back so) (subst (λ (x : Table). Valid x m) back ok) mask cost priced
     (subst (λ (x : Table). (i : ℕ) → T (has mask i) → i < x .count) back masked) b)
   where
     back : t ≡ m .table

@@ -19,6 +19,7 @@ use Rattle.curves.specs.Sum.{sum, given}
 use Rattle.table.specs.declared.Table.{Table}
 use Rattle.table.specs.Numbers.{places}
 use Rattle.table.specs.Links.{linked}
+use Rattle.table.proofs.Sound.{Sound}
 use Rattle.busy_window.specs.Flow.{Events, States, Local}
 use Rattle.executor.specs.declared.Machine.{Machine}
 use Rattle.executor.specs.declared.Ticked.{Ticked}
@@ -29,7 +30,7 @@ use Rattle.executor.specs.Effect.{effect}
 use Rattle.guarantee.specs.History.{Tick, Said, said, ticked, replies, tickAt, saidAt}
 use Rattle.guarantee.proofs.Lists
 use Rattle.guarantee.proofs.Lists.{hit}
-use Rattle.guarantee.proofs.Step.{Sane, Valid, Stepped, steps-over, fresh-valid}
+use Rattle.guarantee.proofs.Step.{Valid, Stepped, steps-over, fresh-valid}
 
 -- ---- any way to tick
 
@@ -97,7 +98,7 @@ module _ (t : Table) (m : Machine) (v : Valid t m) (i : ℕ) where
       go (no e) = rw (Lists.hit-other (m .running) i e) (omega arith)
 
 -- a history of ticks whose masks hold callbacks of the table, and whose costs are in order, from a fresh state
-module _ (tb : Table) (so : Sane tb) (h : List Tick)
+module _ (tb : Table) (so : Sound tb) (h : List Tick)
     (masked : (i t : ℕ) → t < length h → T (has ((tickAt h t) .mask) i) → i < tb .count)
     (priced : (t : ℕ) → t < length h → (1 ≤ (tickAt h t) .cost) × ((tickAt h t) .cost ≤ largestCost)) where
   -- the state before tick t, and what tick t says

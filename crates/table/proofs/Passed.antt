@@ -21,8 +21,8 @@ use Rattle.table.specs.declared.Table.{Table}
 use Rattle.table.specs.Numbers
 use Rattle.table.specs.Values.{refuse, accepted, orElse, callbackAt, kindOf}
 use Rattle.table.specs.Links.{named, isHead, onLoop}
-use Rattle.table.specs.Rules.{within, supplyFault, costFault, unusedFault, recordFault, recordsFrom, arrivalsFault, lowestRefused, linksFault, faultWith, faultOf}
-use Rattle.table.proofs.RulesLaws.{first-refused, first-passed, lowest-refused, lowest-passed}
+use Rattle.table.specs.Rules.{within, supplyFault, costFault, unusedFault, recordFault, recordsFrom, arrivalsFault, linksFault, faultWith, faultOf}
+use Rattle.table.proofs.RulesLaws.{first-passed, both-passed, lowest-passed, lowest-zero}
 use Rattle.table.proofs.FaultLaws.{fault-edition, fault-none, fault-many, fault-off, fault-spare, fault-supply, fault-horizon, fault-rest}
 
 abbrev numberOf : Refusal → ℕ
@@ -98,10 +98,6 @@ module _ (spares : ℕ) (t : Table) where
 
 -- ---- the links
 
-lowest-zero : (n x : ℕ) (r : Refusal) → n ≢ 0 → (lowestRefused n x r) .number ≡ 0 → (x ≡ 0) × (r .number ≡ 0)
-lowest-zero n zero r h e = (refl, e)
-lowest-zero n (suc x) r h e = absurd (h e)
-
 pub record LinksPassed (t : Table) : Type 0 where
   pub once : lowest (λ i. leb 2 (named t i)) (t .count) ≡ 0
   pub timers : lowest (λ i. leb 1 (named t i) && eqb (kindOf t i) Numbers.timer) (t .count) ≡ 0
@@ -175,15 +171,14 @@ module _ (off spare : Bool) (spares : ℕ) (t : Table) (ok : (faultWith off spar
   rest : faultWith off spare spares t ≡ orElse (recordsFrom spares t (t .count) 0) (linksFault t)
   rest = fault-rest off spare spares t passed-edition passed-some passed-few passed-off passed-spare passed-supply passed-horizon
 
+  rest-passed : ((recordsFrom spares t (t .count) 0) .number ≡ 0) × ((linksFault t) .number ≡ 0)
+  rest-passed = both-passed (recordsFrom spares t (t .count) 0) (linksFault t) (ap numberOf (sym rest) ∙ ok)
+
   pub passed-records : (recordsFrom spares t (t .count) 0) .number ≡ 0
-  passed-records = go (ℕ-discrete ((recordsFrom spares t (t .count) 0) .number) 0)
-    where
-      go : Dec ((recordsFrom spares t (t .count) 0) .number ≡ 0) → (recordsFrom spares t (t .count) 0) .number ≡ 0
-      go (yes e) = e
-      go (no h) = absurd (h (ap numberOf (sym (rest ∙ first-refused _ _ h)) ∙ ok))
+  passed-records = rest-passed .0
 
   pub passed-links : LinksPassed t
-  passed-links = links-passed t (ap numberOf (sym (rest ∙ first-passed _ _ passed-records)) ∙ ok)
+  passed-links = links-passed t (rest-passed .1)
 
   pub passed-record : (i : ℕ) → i < t .count → RecordPassed (t .count) (callbackAt t i) (has spares i)
   passed-record i l = record-passed (t .count) (callbackAt t i) (has spares i) (records-passed spares t (t .count) 0 passed-records i (omega arith) (omega arith))

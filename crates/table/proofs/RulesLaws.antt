@@ -1,11 +1,12 @@
 -- The rules of one record, and of the records in turn. Assumes nothing.
 -- cost-none, cost-many, cost-miss, cost-all: rule 10. unused-miss, unused-all: rule 5, the unused entries. records-stop, records-next, records-end: the records in turn.
--- first-refused, first-passed: the first of two refusals. lowest-refused, lowest-passed: the lowest callback that is refused.
+-- first-refused, first-passed, both-passed: the first of two refusals. lowest-refused, lowest-passed, lowest-zero: the lowest callback that is refused.
 use mathlib.Core.Path.{_≡_, refl, sym, ap, ap₂, _∙_}
 use mathlib.Core.Logic.{_≢_}
 use mathlib.Core.Bool.{Bool, true, false, not, _&&_, _||_, and-false}
 use Prim.Native.Nat.{ℕ, zero, suc, _+_, _-_, _≤_, _<_}
 use native.Mathlib.Numerals.{add-one}
+use native.Mathlib.Decide.{ℕ-discrete}
 use native.Mathlib.Omega.{arith}
 use lib.Dec.{eqb, ltb, leb}
 use lib.ListN.{getD}
@@ -130,9 +131,20 @@ first-refused r s h = ap (λ (b : Bool). elim b as (λ _. Refusal) [ true ↦ s 
 pub first-passed : (r s : Refusal) → r .number ≡ 0 → orElse r s ≡ s
 first-passed r s e = ap (λ (b : Bool). elim b as (λ _. Refusal) [ true ↦ s | false ↦ r ]) (eq-eqb (r .number) 0 e)
 
+pub both-passed : (r s : Refusal) → (orElse r s) .number ≡ 0 → (r .number ≡ 0) × (s .number ≡ 0)
+both-passed r s ok = go (ℕ-discrete (r .number) 0)
+  where
+    go : Dec (r .number ≡ 0) → (r .number ≡ 0) × (s .number ≡ 0)
+    go (yes e) = (e, ap (λ (x : Refusal). x .number) (sym (first-passed r s e)) ∙ ok)
+    go (no h) = absurd (h (ap (λ (x : Refusal). x .number) (sym (first-refused r s h)) ∙ ok))
+
 pub lowest-refused : (n x : ℕ) (r : Refusal) → x ≢ 0 → lowestRefused n x r ≡ refuse n x
 lowest-refused n zero r h = absurd (h refl)
 lowest-refused n (suc x) r h = refl
 
 pub lowest-passed : (n x : ℕ) (r : Refusal) → x ≡ 0 → lowestRefused n x r ≡ r
 lowest-passed n x r e = rw e
+
+pub lowest-zero : (n x : ℕ) (r : Refusal) → n ≢ 0 → (lowestRefused n x r) .number ≡ 0 → (x ≡ 0) × (r .number ≡ 0)
+lowest-zero n zero r h e = (refl, e)
+lowest-zero n (suc x) r h e = absurd (h e)

@@ -1,3 +1,4 @@
--- The cases that document 01 marks P, as one table (Worked), and the sheets of tables given as numbers (Sheets).
+-- The cases that document 01 marks P, as one table (Worked), the sheets of tables given as numbers (Sheets), and what a machine says tick by tick (Ticks).
 pub mod Sheets
+pub mod Ticks
 pub mod Worked

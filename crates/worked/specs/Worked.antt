@@ -8,8 +8,10 @@ use lib.Dec.{eqb}
 use Rattle.curves.specs.Arrivals.{arrivals}
 use Rattle.curves.specs.Cost.{cost}
 use Rattle.curves.specs.Supply.{supply}
+use Rattle.table.specs.declared.Callback.{Callback}
 use Rattle.table.specs.declared.Table.{Table}
 use Rattle.worked.specs.Sheets.{tableOf, fullSupply, callback, timer, sheet, bounds, arrivalsInWindow}
+use Rattle.worked.specs.Ticks.{run}
 
 -- a case of the paper, P1 having the number 1
 pub record Case : Type 0 where
@@ -19,6 +21,21 @@ pub record Case : Type 0 where
 
 abbrev pub P : ℕ → List ℕ → List ℕ → Case
 P k gives says = record { number = k; reckoned = gives; paper = says }
+
+-- P10's callback
+abbrev pub lone : Callback
+lone = callback 10 0 10 (2 ∷ [])
+
+-- P10's ticks 0 to 6, six numbers each (Ticks): "callback 2 runs in ticks 0-1, 3 in 2-3, 1 in 4-5. Polls at ticks 0, 4 and 6 take 2, 1 and 0."
+abbrev pub ticks0to6 : List ℕ
+ticks0to6 =
+    (3 ∷ 2 ∷ 1 ∷ 1 ∷ 1 ∷ 2 ∷ [])
+    ++ (4 ∷ 2 ∷ 1 ∷ 0 ∷ 0 ∷ 0 ∷ [])
+    ++ (3 ∷ 3 ∷ 1 ∷ 1 ∷ 0 ∷ 0 ∷ [])
+    ++ (4 ∷ 3 ∷ 1 ∷ 0 ∷ 0 ∷ 0 ∷ [])
+    ++ (3 ∷ 1 ∷ 1 ∷ 1 ∷ 1 ∷ 1 ∷ [])
+    ++ (4 ∷ 1 ∷ 1 ∷ 0 ∷ 0 ∷ 0 ∷ [])
+    ++ (2 ∷ 0 ∷ 0 ∷ 0 ∷ 1 ∷ 0 ∷ [])
 
 unfoldable pub table : List Case
 table =
@@ -42,6 +59,8 @@ table =
     -- full supply, T 200, d 1, entry 2: J 50,400 gives W and a(W), accepted; J 50,600 is refusal 16, index 1
     ∷ P 9 (let t : Table = fullSupply (callback 200 50400 1 (2 ∷ []) ∷ []) in sheet t ++ arrivalsInWindow t) (510 ∷ 0 ∷ 0 ∷ 255 ∷ [])
     ∷ P 9 (sheet (fullSupply (callback 200 50600 1 (2 ∷ []) ∷ []))) (0 ∷ 16 ∷ 1 ∷ [])
+    -- three lone subscriptions, full supply, T = d = 10, entry 2, every tick supplied with cost 2, mask 6 at tick 0, 1 at tick 1
+    ∷ P 10 (run (fullSupply (lone ∷ lone ∷ lone ∷ [])) 2 (6 ∷ 1 ∷ 0 ∷ 0 ∷ 0 ∷ 0 ∷ 0 ∷ [])) ticks0to6
     ∷ []
 
 -- two rows of numbers agree

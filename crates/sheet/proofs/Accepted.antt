@@ -1,0 +1,81 @@
+-- What an accepted analysis says of the table, its window and the row. Assumes nothing.
+-- Of a table with sheetFault number 0: some-window, few-arrivals. Of bytes and a row with analysisFault number 0:
+-- long-row, analysed-read, analysed-sheet: neither the row, nor the reader, nor the table's sheet is refused. analysed-at: the row holds the bounds.
+use mathlib.Core.Path.{_≡_, refl, ap, _∙_}
+use mathlib.Core.Logic.{_⊎_, inl, inr, _≢_}
+use mathlib.Core.Bool.{Bool, true, false}
+use mathlib.Core.List.{List}
+use Prim.Native.Nat.{ℕ, zero, suc, _≤_, _<_}
+use native.Mathlib.Omega.{arith}
+use lib.Dec.{ltb}
+use lib.ListN.{length, getD}
+use borrow.Author.Tests.{eq-eqb, lt-ltb, ltb-false}
+use Rattle.lent.specs.Over.{over}
+use Rattle.curves.proofs.SumLaws.{le-or-lt}
+use Rattle.curves.proofs.LeastLaws.{lowest-none}
+use Rattle.curves.proofs.EveryLaws.{fails, never-both}
+use Rattle.table.specs.declared.Refusal.{Refusal}
+use Rattle.table.specs.declared.Table.{Table}
+use Rattle.table.specs.Numbers.{places}
+use Rattle.table.specs.Values.{refuse, accepted, orElse}
+use Rattle.table.specs.Links.{isHead}
+use Rattle.table.specs.Rules.{lowestRefused}
+use Rattle.table.specs.Format.{tableAt, readFault}
+use Rattle.table.proofs.RulesLaws.{both-passed, lowest-zero}
+use Rattle.table.proofs.Accepted.{read-sound}
+use Rattle.sheet.specs.Sheet.{noWindow, tooMany, shortRow, mostWaiting, arrivalsOf, windowOf, boundOf, tooManyAt, sheetFault, analysisFault, boundsTo, rowOf}
+use Rattle.sheet.proofs.PartLaws.{crowded}
+use Rattle.sheet.proofs.RowLaws.{row-at}
+
+-- ---- a table's sheet
+
+module _ (t : Table) (ok : (sheetFault t) .number ≡ 0) where
+  neither : (windowOf t ≢ 0) × (tooManyAt t (windowOf t) ≡ 0)
+  unfolding sheetFault
+  neither = go (windowOf t) ok
+    where
+      go : (w : ℕ) → (elim w as (λ _. Refusal) [ zero ↦ refuse noWindow 0 | suc w ↦ lowestRefused tooMany (tooManyAt t (suc w)) accepted ]) .number ≡ 0
+          → (w ≢ 0) × (tooManyAt t w ≡ 0)
+      go zero e = absurd (omega arith)
+      go (suc w) e = (omega arith, lowest-zero tooMany (tooManyAt t (suc w)) accepted (λ z. omega arith) e .0)
+
+  pub some-window : windowOf t ≢ 0
+  some-window = neither .0
+
+  -- no head activates more than 255 times within the window
+  pub few-arrivals : (i : ℕ) → i < t .count → isHead t i ≡ true → arrivalsOf t i (windowOf t) ≤ mostWaiting
+  unfolding tooManyAt
+  few-arrivals i l e = go (le-or-lt (arrivalsOf t i (windowOf t)) mostWaiting)
+    where
+      go : (arrivalsOf t i (windowOf t) ≤ mostWaiting) ⊎ (mostWaiting < arrivalsOf t i (windowOf t)) → arrivalsOf t i (windowOf t) ≤ mostWaiting
+      go (inl h) = h
+      go (inr h) = absurd (never-both (crowded t (windowOf t) i) (rw (e, lt-ltb mostWaiting (arrivalsOf t i (windowOf t)) h))
+          (fails _ (lowest-none (crowded t (windowOf t)) (t .count) (neither .1) i l)))
+
+-- ---- bytes and a row
+
+module _ (b : List ℕ) (k : ℕ) (ok : (analysisFault b k) .number ≡ 0) where
+  none : (places ≤ k) × ((orElse (readFault b) (sheetFault (tableAt b))) .number ≡ 0)
+  unfolding analysisFault
+  none = go (ltb k places) refl ok
+    where
+      go : (c : Bool) → ltb k places ≡ c → (elim c as (λ _. Refusal) [ true ↦ refuse shortRow 0 | false ↦ orElse (readFault b) (sheetFault (tableAt b)) ]) .number ≡ 0
+          → (places ≤ k) × ((orElse (readFault b) (sheetFault (tableAt b))) .number ≡ 0)
+      go true e h = absurd (omega arith)
+      go false e h = (ltb-false k places e, h)
+
+  pub long-row : places ≤ k
+  long-row = none .0
+
+  pub analysed-read : (readFault b) .number ≡ 0
+  analysed-read = both-passed (readFault b) (sheetFault (tableAt b)) (none .1) .0
+
+  pub analysed-sheet : (sheetFault (tableAt b)) .number ≡ 0
+  analysed-sheet = both-passed (readFault b) (sheetFault (tableAt b)) (none .1) .1
+
+-- "The reported bound of i is the number that the analyser wrote .. into place i of the row"
+pub analysed-at : (b row : List ℕ) → (analysisFault b (length row)) .number ≡ 0 → (i : ℕ) → i < (tableAt b) .count → getD (rowOf b row) i 0 ≡ boundOf (tableAt b) i
+unfolding rowOf
+analysed-at b row ok i l =
+    ap (λ (c : Bool). getD (elim c [ true ↦ over row 0 (boundsTo (tableAt b) ((tableAt b) .count)) | false ↦ row ]) i 0) (eq-eqb ((analysisFault b (length row)) .number) 0 ok)
+    ∙ row-at (tableAt b) row ((tableAt b) .count) i (omega (arith, long-row b (length row) ok, read-sound b (analysed-read b (length row) ok) .few)) l
