@@ -8,8 +8,10 @@ use native.Mathlib.Nat.{eq-or-lt-of-le, le-of-suc-le-suc, zero-add}
 use native.Mathlib.Omega.{arith}
 use lib.ListN.{length, getD, take, drop, replicate, length-replicate, length-drop, getD-replicate}
 use lib.Seq.{ext-getD, length-take-le, getD-take, getD-drop}
+use lib.Bits.{bitOr, or-zero-l, or-add-and, and-le-r}
 use lib.Dec.{eqb}
-use borrow.Author.Tests.{eq-eqb, eqb-true}
+use native.Mathlib.Decide.{ℕ-discrete}
+use borrow.Author.Tests.{eq-eqb, ne-eqb, eqb-true}
 use Rattle.lent.specs.Over.{over}
 use Rattle.lent.specs.Bytes.{zeros}
 use Rattle.lent.proofs.Inside.{over-before, over-inside, over-after}
@@ -53,28 +55,27 @@ zeros-miss b k n i l ne = go (zeros b k n) refl
     go true e = absurd (ne (zeros-at b k n i e l))
     go false e = refl
 
--- ---- the search for a byte that is not zero, among those from k up to but not including a place
+-- ---- the bytes from k up to but not including a place, taken together by `|`
 
-pub zeros-none : (b : List ℕ) (k : ℕ) → zeros b k (k - k) ≡ true
-zeros-none b k = zeros-all b k (k - k) (λ i l. absurd (omega arith))
+-- two numbers taken together are zero where both are
+pub or-zero : (a x : ℕ) → eqb (bitOr a x) 0 ≡ (eqb a 0 && eqb x 0)
+or-zero a x = go (ℕ-discrete a 0)
+  where
+    go : Dec (a ≡ 0) → eqb (bitOr a x) 0 ≡ (eqb a 0 && eqb x 0)
+    go (yes z) = ap (λ (y : ℕ). eqb (bitOr y x) 0) z ∙ ap (λ (y : ℕ). eqb y 0) (or-zero-l x) ∙ sym (ap (λ (c : Bool). c && eqb x 0) (eq-eqb a 0 z))
+    go (no h) = ne-eqb (bitOr a x) 0 (λ z. h (omega (arith, or-add-and a x, and-le-r a x))) ∙ sym (ap (λ (c : Bool). c && eqb x 0) (ne-eqb a 0 h))
+
+-- none yet
+pub zeros-none : (b : List ℕ) (k : ℕ) → eqb 0 0 ≡ zeros b k (k - k)
+zeros-none b k = sym (zeros-all b k (k - k) (λ i l. absurd (omega arith)))
 
 -- one byte more
-pub zeros-more : (b : List ℕ) (k i : ℕ) → k ≤ i → zeros b k (i - k) ≡ true → getD b i 0 ≡ 0 → zeros b k (i + 1 - k) ≡ true
+pub zeros-more : (b : List ℕ) (k i a : ℕ) → k ≤ i → eqb a 0 ≡ zeros b k (i - k) → eqb (bitOr a (getD b i 0)) 0 ≡ zeros b k (i + 1 - k)
 unfolding zeros
-zeros-more b k i h e z =
-    let at : k + (i - k) ≡ i = omega arith in
-    let more : i + 1 - k ≡ suc (i - k) = omega arith in
-    ap (zeros b k) more ∙ ap₂ _&&_ e (eq-eqb (getD b (k + (i - k)) 0) 0 (ap (λ (j : ℕ). getD b j 0) at ∙ z))
-
--- one that is not zero
-pub zeros-stop : (b : List ℕ) (k i to : ℕ) → k ≤ i → i < to → (getD b i 0 ≡ 0 → ⊥) → zeros b k (to - k) ≡ false
-zeros-stop b k i to h l ne =
+zeros-more b k i a h e =
     let at : i ≡ k + (i - k) = omega arith in
-    zeros-miss b k (to - k) (i - k) (omega arith) (λ z. ne (ap (λ (j : ℕ). getD b j 0) at ∙ z))
-
--- all of them passed
-pub zeros-less : (b : List ℕ) (k n m : ℕ) → n ≤ m → zeros b k m ≡ true → zeros b k n ≡ true
-zeros-less b k n m h e = zeros-all b k n (λ i l. zeros-at b k m i e (omega arith))
+    let more : suc (i - k) ≡ i + 1 - k = omega arith in
+    or-zero a (getD b i 0) ∙ ap₂ _&&_ e (ap (λ (j : ℕ). eqb (getD b j 0) 0) at) ∙ ap (zeros b k) more
 
 -- ---- runs of two lists
 

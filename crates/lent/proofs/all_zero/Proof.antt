@@ -1,32 +1,26 @@
--- The bytes passed so far are zero; the first that is not settles it.
-use mathlib.Core.Path.{_≡_, sym}
-use mathlib.Core.Bool.{true}
-use Prim.Native.Nat.{_≤_, _-_}
+-- What the bytes passed so far give together is zero where each of them is.
+use mathlib.Core.Path.{_≡_, ap, _∙_}
+use Prim.Native.Nat.{ℕ, _≤_, _-_}
+use lib.Dec.{eqb}
 use denote.Ref.{now}
 use Rattle.lent.specs.Bytes.{zeros}
-use Rattle.lent.proofs.Spare.{zeros-none, zeros-more, zeros-stop, zeros-less}
+use Rattle.lent.proofs.Spare.{zeros-none, zeros-more}
 use native.Mathlib.Omega.{arith}
 use borrow.Author.Needs.{needs}
 use Rattle.lent.proofs.all_zero.Statement.{statement}
 use Rattle.lent.proofs.all_zero.Tie as tie
 
 abbrev Inv-loop : tie.InvT-loop
-Inv-loop b from to i₀ i = (from ≤ i) × (zeros b from (i - from) ≡ true)
+Inv-loop b from to any₀ i₀ any i = (from ≤ i) × (i - from ≤ to - from) × (eqb any 0 ≡ zeros b from (i - from))
 
 abbrev μ-loop : tie.MeasureT-loop
-μ-loop b from to i₀ i = to - i
+μ-loop b from to any₀ i₀ any i = to - i
 
 loop-holds : tie.Need-loop-holds Inv-loop μ-loop
-loop-holds c = (omega arith, zeros-none (now (c .args .b)) (c .args .from))
+loop-holds c = (omega arith, omega arith, zeros-none (now (c .args .b)) (c .args .from))
 
-shared-slice-read-if1 : tie.Need-shared-slice-read-if1 Inv-loop μ-loop
-shared-slice-read-if1 c = search needs
-
-returns : tie.Need-returns Inv-loop μ-loop
-returns c =
-    let a = c .before .before .before .before .args in
-    let l = c .before .before .before .loop in
-    sym (zeros-stop (now (a .b)) (a .from) (l .i) (a .to) (l .inv .0) (omega arith) (c .if1 .taken))
+shared-slice-read-any : tie.Need-shared-slice-read-any Inv-loop μ-loop
+shared-slice-read-any c = search needs
 
 add-i : tie.Need-add-i Inv-loop μ-loop
 add-i c = search needs
@@ -36,28 +30,19 @@ loop-less c = search needs
 
 loop-again : tie.Need-loop-again Inv-loop μ-loop
 loop-again c =
-    let a = c .before .before .before .before .args in
-    let l = c .before .before .before .loop in (
+    let a = c .before .before .before .args in
+    let l = c .before .before .loop in (
       omega arith,
-      zeros-more (now (a .b)) (a .from) (l .i) (l .inv .0) (l .inv .1) (c .if1 .left),
+      omega arith,
+      zeros-more (now (a .b)) (a .from) (l .i) (l .any) (l .inv .0) (l .inv .2),
     )
 
-returns-2 : tie.Need-returns-2 Inv-loop μ-loop
-returns-2 c =
+returns : tie.Need-returns Inv-loop μ-loop
+returns c =
     let a = c .before .before .args in
     let l = c .before .loop in
-    sym (zeros-less (now (a .b)) (a .from) (a .to - a .from) (l .i - a .from) (omega arith) (l .inv .1))
+    let end : l .i - a .from ≡ a .to - a .from = omega arith in
+    l .inv .2 ∙ ap (zeros (now (a .b)) (a .from)) end
 
 pub all-zero-spec : {M : Type 1} → statement M
-all-zero-spec =
-    tie.close
-    (tie.spec
-    Inv-loop
-    μ-loop
-    loop-holds
-    shared-slice-read-if1
-    returns
-    add-i
-    loop-less
-    loop-again
-    returns-2)
+all-zero-spec = tie.close (tie.spec Inv-loop μ-loop loop-holds shared-slice-read-any add-i loop-less loop-again returns)
