@@ -3,7 +3,7 @@
 
 use crate::machine::{start, Tick};
 use crate::table::read;
-use crate::text::reply_text;
+use crate::text::{refusal_text, reply_text};
 
 /// Mask, supplied, cost.
 const TICK_BYTES: usize = 7;
@@ -45,13 +45,28 @@ pub fn packed_history(table: &[u8], ticks: &[(Tick, u8)]) -> Vec<u8> {
     bytes
 }
 
-/// A line for each tick of such a history, as `replay` prints it.
+/// The answers in the order of their numbers, 1 to 4.
+const ANSWERS: [&str; 4] = ["nosupply", "idle", "ran", "finished"];
+
+/// A line of `replay` with the answer's number for its word.
+fn numbered(line: &str) -> String {
+    let field = |word: &str| match ANSWERS.iter().position(|&answer| answer == word) {
+        Some(place) => (place + 1).to_string(),
+        None => word.to_string(),
+    };
+    line.split(' ').map(field).collect::<Vec<_>>().join(" ")
+}
+
+/// The refusal of a start, if any, then a line for each tick of such a
+/// history, the answer by its number.
 pub fn replies(input: &[u8]) -> String {
     let Some((table, rest)) = frame(input) else {
         return String::new();
     };
-    let mut state = start(table).state;
-    let mut text = String::new();
+    let started = start(table);
+    let refusal = started.refusal.as_ref();
+    let mut text = refusal.map_or(String::new(), |refusal| refusal_text(refusal) + "\n");
+    let mut state = started.state;
     for (time, bytes) in rest.chunks_exact(TICK_BYTES).enumerate() {
         let step = state.tick(Tick {
             mask: u16::from_le_bytes([bytes[0], bytes[1]]),
@@ -59,7 +74,7 @@ pub fn replies(input: &[u8]) -> String {
             cost: u32::from_le_bytes([bytes[3], bytes[4], bytes[5], bytes[6]]).into(),
         });
         state = step.state;
-        text += &(reply_text(time, &step.reply) + "\n");
+        text += &(numbered(&reply_text(time, &step.reply)) + "\n");
     }
     text
 }

@@ -123,7 +123,7 @@ fn binary_input() {
     let history = packed_history(&bytes, &[(tick(6, 2), 1), (tick(1, 65_537), 255)]);
     assert_eq!(
         program(&["histories"], &history),
-        "0 ran 2 1 1 1 2\n1 refused 19 0\n"
+        "0 3 2 1 1 1 2\n1 refused 19 0\n"
     );
 }
 
@@ -139,10 +139,10 @@ fn binary_input_covers() {
     }
     let text = replies(&packed_history(&encode(&base()), &covering()));
     for said in [
-        "nosupply",
-        "idle",
-        "ran",
-        "finished",
+        "1 0 0 0 0",
+        "2 0 0 0 1",
+        "3 2",
+        "4 2",
         "refused 19",
         "refused 20",
         "refused 21",

@@ -1,6 +1,6 @@
 -- What the exported functions are made of, test by test. Assumes nothing.
 -- not-laid, is-laid, laid-no, laid-yes, not-zero, part-number, part-table: what unpacking gives.
--- analysed: the analyser. start-short, start-size, start-refused, start-done: a start. said-parts, tick-none, tick-refused, tick-done: a tick.
+-- analysed: the analyser. start-short, start-size, start-refused, start-done, start-new: a start. said-parts, tick-none, tick-refused, tick-done: a tick.
 use mathlib.Core.Path.{_≡_, refl, sym, ap, ap₂, _∙_}
 use mathlib.Core.Bool.{Bool, true, false, not}
 use mathlib.Core.List.{List, _++_}
@@ -115,6 +115,11 @@ module _ (b s : List ℕ) where
   unfolding stateStarted
   state-new h = rw (eq-eqb ((startFault b s) .number) 0 h, stateStarted)
 
+  -- an accepted start: the fresh state
+  pub start-new : length s ≡ stateLength → (readFault b) .number ≡ 0 → stateStarted b s ≡ packed ((startOf b) .machine)
+  unfolding startOf
+  start-new long ok = state-new (ap (λ (r : Refusal). r .number) (fault-long long ∙ reading-is b) ∙ ok)
+
   pub start-short : (length s ≡ stateLength → ⊥) → (_≡_ {A = Refused} (record { number = faultyState; index = 0 }) (startSaid b s)) × (s ≡ stateStarted b s)
   unfolding startSaid
   start-short h =
@@ -139,8 +144,7 @@ module _ (b s : List ℕ) where
         let rest : List ℕ = replicate (stateLength - length b) 0 in
         let n : length rest ≡ stateLength - length b = length-replicate (stateLength - length b) 0 in
         let small : length b ≤ waitingStart = start-size b e h in
-        let ok : (readFault b) .number ≡ 0 = start-accepts b e h in
-        (
+        let ok : (readFault b) .number ≡ 0 = start-accepts b e h in (
           said,
           e2
               ∙ ap (λ (y : List ℕ). over y (length b) rest) e1
@@ -178,8 +182,7 @@ module _ (b : List ℕ) (mask supplied cost : ℕ) where
     unfolding stateTicked
     tick-done bytes h es w f =
         let table : x .machine .table ≡ (unpacked b) .table =
-        ap (λ (y : Ticked). y .machine .table) ex ∙ tick-table m mask (isSupplied supplied) cost ∙ ap (λ (y : Machine). y .table) em in
-        (
+        ap (λ (y : Ticked). y .machine .table) ex ∙ tick-table m mask (isSupplied supplied) cost ∙ ap (λ (y : Machine). y .table) em in (
           tick-said,
           es
               ∙ sym (packed-over b bytes l (x .machine) table w f)

@@ -17,7 +17,7 @@ use Rattle.masks.proofs.Gather.{gather-mask}
 use Rattle.curves.specs.Sum.{given}
 use Rattle.curves.specs.Every.{some}
 use Rattle.curves.proofs.SumLaws.{le-or-lt}
-use Rattle.curves.proofs.EveryLaws.{or-fails, and-holds, never-both, some-hit}
+use Rattle.curves.proofs.EveryLaws.{or-fails, and-holds}
 use Rattle.lent.specs.Bytes.{get2}
 use Rattle.lent.proofs.Trip.{get2-lt}
 use Rattle.table.specs.declared.Callback.{Callback}
@@ -37,6 +37,7 @@ use Rattle.executor.specs.Numbers.{mostTicks, mostWaiting, largestCost}
 use Rattle.executor.specs.State.{fresh, isPolled, beyondFault, countFault, cacheFault, slotFault, runFault, tableFault, faulty}
 use Rattle.executor.specs.Effect.{arrived, after, gained, activated, waits, choice, pollingPoint, gatheredOf, choose, instanceAt, finishes, continues, worked, begun, served, effect}
 use Rattle.executor.specs.Tick.{tickFault, refused, tickOf}
+use Rattle.executor.proofs.FaultLaws.{some-miss}
 use Rattle.executor.proofs.ArrivedLaws.{arrived-length, arrived-at}
 use Rattle.cuorfelt.proofs.LayoutLaws.{MachineFits}
 
@@ -237,14 +238,6 @@ module _ (m : Machine) (f : MachineFits m) (few : m .table .count ≤ places) (s
 
 -- ---- any tick
 
--- where no number below n passes, none of them does
-some-miss : (p : ℕ → Bool) (n : ℕ) → some n p ≡ false → (i : ℕ) → i < n → p i ≡ false
-some-miss p n e i l = go (p i) refl
-  where
-    go : (x : Bool) → p i ≡ x → x ≡ false
-    go true f = absurd (never-both (some n p) (some-hit p n i l f) e)
-    go false f = refl
-
 module _ (m : Machine) (f : MachineFits m) where
   -- what the faults leave of the counts
   slot-passed : faulty m ≡ false → (i : ℕ) → i < places → (getD (m .waiting) i 0 ≤ mostWaiting) × (getD (m .finished) i 0 ≤ m .clock)
@@ -252,7 +245,7 @@ module _ (m : Machine) (f : MachineFits m) where
   slot-passed e i l =
       let x = or-fails (tableFault (m .table)) _ e in
       let y = or-fails (runFault m) (some places (slotFault m)) (x .1) in
-      let z = or-fails (beyondFault m i) _ (some-miss (slotFault m) places (y .1) i l) in
+      let z = or-fails (beyondFault m i) _ (some-miss (slotFault m) places i (y .1) l) in
       let u = or-fails (countFault m i) (cacheFault m i) (z .1) in
       let v = or-fails (ltb mostWaiting (getD (m .waiting) i 0)) (ltb (m .clock) (getD (m .finished) i 0)) (u .0) in
       (ltb-false mostWaiting (getD (m .waiting) i 0) (v .0), ltb-false (m .clock) (getD (m .finished) i 0) (v .1))

@@ -15,7 +15,7 @@ use lib.Seq.{length-take-le, getD-take, take-at, take-all, take-add, take-length
 use borrow.Author.Tests.{eqb-true, eq-eqb, le-leb, leb-true, not-false, not-true}
 use Rattle.curves.specs.Every.{every, some}
 use Rattle.curves.proofs.SumLaws.{le-or-lt}
-use Rattle.curves.proofs.EveryLaws.{and-holds, or-fails, every-at, every-all, some-none, some-hit, never-both}
+use Rattle.curves.proofs.EveryLaws.{and-holds, or-fails, every-at, some-none}
 use Rattle.lent.specs.Bytes.{get2, get4, le2, le4, zeros}
 use Rattle.lent.specs.Over.{over}
 use Rattle.lent.proofs.Replace.{over-own, over-length, over-over}
@@ -34,6 +34,7 @@ use Rattle.table.proofs.Sound.{sound}
 use Rattle.table.proofs.Accepted.{read-fits, read-few, read-accepted, read-blank}
 use Rattle.table.proofs.WrittenLaws.{past, zeros-past, run, one, TableFits, Writable, written-tableAt, length-written, header-written, tableAt-written, readFault-written}
 use Rattle.executor.specs.declared.Machine.{Machine}
+use Rattle.executor.proofs.FaultLaws.{some-miss}
 use Rattle.executor.specs.State.{fresh, isBlank, tableFault, faulty}
 use Rattle.cuorfelt.specs.Layout.{stateLength, waitingStart, finishedStart, clockStart, cacheStart, unitsStart, runningStart, spareStart, spareBytes, get2s, get4s, longs, tableEnd, tablePart, laidOut, unpackedWith, unpacked, packedTail, packed}
 use Rattle.cuorfelt.proofs.Runs.{two-bytes, four-bytes, length-all, get-one, gets-all, all-gets}
@@ -342,16 +343,10 @@ module _ (m : Machine) (f : MachineFits m) (ok : faulty m ≡ false) where
       is-blank : (i : ℕ) → m .table .count ≤ i → i < places
           → some places (λ j. leb (m .table .count) j && not (isBlank (callbackAt (m .table) j))) ≡ false
           → isBlank (callbackAt (m .table) i) ≡ true
-      is-blank i h l e = go (isBlank (callbackAt (m .table) i)) refl
-        where
-          go : (x : Bool) → isBlank (callbackAt (m .table) i) ≡ x → x ≡ true
-          go true g = refl
-          go false g =
-              absurd
-              (never-both (some places (λ j. leb (m .table .count) j && not (isBlank (callbackAt (m .table) j))))
-              (some-hit (λ j. leb (m .table .count) j && not (isBlank (callbackAt (m .table) j))) places i l
-              (ap₂ _&&_ (le-leb (m .table .count) i h) (ap not g)))
-              e)
+      is-blank i h l e =
+          not-false (isBlank (callbackAt (m .table) i))
+          (ap (λ (x : Bool). x && not (isBlank (callbackAt (m .table) i))) (sym (le-leb (m .table .count) i h))
+          ∙ some-miss (λ j. leb (m .table .count) j && not (isBlank (callbackAt (m .table) j))) places i e l)
 
   -- a state without faults is packed as a state that is laid out, and unpacked as it was
   pub unpack-pack : (laidOut (packed m) ≡ true) × (unpacked (packed m) ≡ m)

@@ -1,11 +1,19 @@
 // The state in lent bytes, as docs/STATE.md lays it out.
 
 use super::Unpacked;
-use super::numbers::{CACHE_START, CLOCK_START, FINISHED_START, RUNNING_START, SPARE_START, STATE_LENGTH, UNITS_START, WAITING_START};
-use table::numbers::{HEADER_LENGTH, PLACES, RECORD_LENGTH};
+use super::numbers::CACHE_START;
+use super::numbers::CLOCK_START;
+use super::numbers::FINISHED_START;
+use super::numbers::RUNNING_START;
+use super::numbers::SPARE_START;
+use super::numbers::STATE_LENGTH;
+use super::numbers::UNITS_START;
+use super::numbers::WAITING_START;
 use executor::Machine;
 use table::Table;
-
+use table::numbers::HEADER_LENGTH;
+use table::numbers::PLACES;
+use table::numbers::RECORD_LENGTH;
 ghost use mathlib.Core.Path.{_≡_};
 ghost use mathlib.Core.Bool.{true};
 ghost use Prim.Native.Nat.{ℕ, _≤_};

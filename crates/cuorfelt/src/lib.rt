@@ -10,8 +10,8 @@ ghost use Rattle.sheet.specs.Sheet.{rowOf};
 ghost use Rattle.cuorfelt.specs.Layout.{stateLength};
 ghost use Rattle.cuorfelt.specs.Edge.{refusedBy, readSaid, sheetSaid, startSaid, stateStarted, flag, saidOf, noState, tickSaid, stateTicked};
 
-mod numbers;
 mod layout;
+mod numbers;
 
 // A refusal; number 0 where nothing is refused.
 #[repr(C)]
@@ -49,12 +49,12 @@ pub struct Unpacked {
 }
 
 // A refusal as a host sees it.
-fn refusal(r: table::Refusal) -> Refused
-    ensures { λ o. ⌜ o ≡ refusedBy r ⌝ }
+fn refusal(from: table::Refusal) -> Refused
+    ensures { λ r. ⌜ r ≡ refusedBy from ⌝ }
 {
     Refused {
-        number: r.number,
-        index: r.index,
+        number: from.number,
+        index: from.index,
     }
 }
 
@@ -72,8 +72,8 @@ pub extern "C" fn cuorfelt_read(table: &[u8]) -> Refused
     ensures { λ r. ⌜ r ≡ readSaid (now (table .entry)) ⌝ }
 {
     let reading = table::reader::read(table);
-    let r = reading.refusal;
-    refusal(r)
+    let why = reading.refusal;
+    refusal(why)
 }
 
 // 1 or 0.
@@ -86,18 +86,18 @@ fn flagged(b: bool) -> u8
     0
 }
 
-// The window and the bounds of a table: bounds 1 to n into the row, whose other places are kept, and the whole row where the
-// refusal's number is not 0.
+// The window of a table, and its bounds 1 to n in the first n places of the row; the other places are kept, and all of them
+// where it is refused.
 #[no_mangle]
 pub extern "C" fn cuorfelt_analyse(table: &[u8], row: &mut [u16]) -> Analysed
     ensures { λ r. ⌜ (r ≡ sheetSaid (now (table .entry)) (length (now (row .entry)))) × (now (row .exit) ≡ rowOf (now (table .entry)) (now (row .entry))) ⌝ }
 {
     let sheet = sheet::analyse(table, row);
-    let r = sheet.refusal;
+    let why = sheet.refusal;
     Analysed {
         window: sheet.window,
-        number: r.number,
-        index: r.index,
+        number: why.number,
+        index: why.index,
     }
 }
 
@@ -113,14 +113,14 @@ pub extern "C" fn cuorfelt_start(table: &[u8], state: &mut [u8]) -> Refused
         };
     }
     let started = executor::Machine::start(table);
-    let r = started.refusal;
-    if r.number != 0 {
-        return refusal(r);
+    let why = started.refusal;
+    if why.number != 0 {
+        return refusal(why);
     }
     lent::copy(state, 0, table);
     let end = table.len();
     lent::zero(state, end, numbers::STATE_LENGTH - end);
-    refusal(r)
+    refusal(why)
 }
 
 // A reply as a host sees it, with what stands beside it.

@@ -3,22 +3,18 @@
 --   first-timer, first-cached, at-poll   what is chosen in masks: where a timer waits, where the cache has one, at a polling point
 --   foremost-same, choose-law            the choice in masks is that of step 3
 use mathlib.Core.Path.{_≡_, refl, subst, sym, ap, ap₂, _∙_}
-use mathlib.Core.Logic.{_⊎_, inl, inr, _≢_}
+use mathlib.Core.Logic.{_≢_}
 use mathlib.Core.Bool.{Bool, true, false, not, _&&_}
 use mathlib.Core.List.{List}
-use Prim.Native.Nat.{ℕ, zero, suc, _+_, _≤_, _<_}
-use native.Mathlib.Nat.{eq-or-lt-of-le}
-use native.Mathlib.Numerals.{add-one}
+use Prim.Native.Nat.{ℕ, zero, suc, _≤_, _<_}
 use native.Mathlib.Omega.{arith}
-use lib.Dec.{T, T-not, eqb, ltb, ltb→lt, lt→ltb, eqb-refl}
+use lib.Dec.{T, eqb, ltb→lt}
 use lib.ListN.{getD}
-use lib.Bits.{bitAnd}
-use borrow.Author.Tests.{lt-ltb}
-use Rattle.masks.specs.Mask.{has, withBit, both, except, countOf, gather}
+use Rattle.masks.specs.Mask.{has, both, except, countOf, gather}
 use Rattle.masks.proofs.Slots.{has-and, has-except, except-lt, mask-ext}
-use Rattle.masks.proofs.Gather.{gather-has, gather-in, gather-lt}
+use Rattle.masks.proofs.Gather.{gather-in, gather-lt}
 use Rattle.curves.specs.Least.{lowest}
-use Rattle.curves.proofs.LeastLaws.{lowest-hit, lowest-some, lowest-same}
+use Rattle.curves.proofs.LeastLaws.{lowest-hit, lowest-same}
 use Rattle.table.specs.declared.Table.{Table}
 use Rattle.table.specs.declared.Kinds as masked
 use Rattle.table.specs.Numbers.{places, timer, client}

@@ -3,7 +3,7 @@
 --   served-running, served-idle, served-begun   steps 3 and 4 by what runs and who is chosen
 --   ready-arrived                               the state after the arrivals
 --   effect-supplied, effect-unsupplied          the whole tick
-use mathlib.Core.Path.{_≡_, refl, subst, sym, ap, _∙_}
+use mathlib.Core.Path.{_≡_, refl, sym, ap, _∙_}
 use mathlib.Core.Logic.{_≢_}
 use mathlib.Core.Bool.{Bool, true, false}
 use mathlib.Core.List.{List}
@@ -18,10 +18,9 @@ use Rattle.table.specs.declared.Kinds as masked
 use Rattle.table.specs.declared.Table.{Table}
 use Rattle.table.specs.Numbers.{places}
 use Rattle.table.specs.Priority.{kindsOf}
-use Rattle.executor.specs.declared.Answer.the-variants.{NoSupply, Idle}
+use Rattle.executor.specs.declared.Answer.the-variants.{NoSupply}
 use Rattle.executor.specs.declared.Choice.{Choice}
 use Rattle.executor.specs.declared.Machine.{Machine}
-use Rattle.executor.specs.declared.Ticked.{Ticked}
 use Rattle.executor.specs.Numbers.{mostWaiting}
 use Rattle.executor.specs.State.{waitingOf}
 use Rattle.executor.specs.Effect

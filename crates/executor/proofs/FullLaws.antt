@@ -18,10 +18,10 @@ use lib.Dec.{T, eqb, ltb, leb}
 use lib.ListN.{getD}
 use borrow.Author.Tests.{eq-eqb, ne-eqb, le-leb, lt-leb, ltb-false}
 use Rattle.masks.specs.Mask.{has, withBit, withoutBit, except, firstOf, gather}
-use Rattle.masks.proofs.Slots.{has-zero, has-with, has-without-same, has-without-other, has-except, except-lt, has-above}
+use Rattle.masks.proofs.Slots.{has-zero, has-with, has-without-other, has-except, except-lt, has-above}
 use Rattle.masks.proofs.Lowest.{first-of-below}
 use Rattle.masks.proofs.Gather.{gather-has}
-use Rattle.curves.specs.Least.{lowest, lowestFrom, least}
+use Rattle.curves.specs.Least.{lowest}
 use Rattle.curves.proofs.LeastLaws.{First, byIndex, lowest-least, least-is, lowest-hit, lowest-same}
 use Rattle.curves.proofs.EveryLaws.{T-holds, T-fails}
 use Rattle.table.specs.declared.Table.{Table}
@@ -36,7 +36,7 @@ use Rattle.executor.specs.declared.Machine.{Machine}
 use Rattle.executor.specs.declared.Ticked.{Ticked}
 use Rattle.executor.specs.Numbers.{mostWaiting}
 use Rattle.executor.specs.Reply.{finishedOf}
-use Rattle.executor.specs.State.{isPolled, waitingOf}
+use Rattle.executor.specs.State.{isPolled}
 use Rattle.executor.specs.Effect.{waits, choose, gatheredOf, pollingPoint, finishes, continues, worked, begun, served, arrived, effect, after, answered}
 use Rattle.executor.specs.Tick.{foreign, nextActivated, full}
 use Rattle.executor.specs.Work.{Ready}

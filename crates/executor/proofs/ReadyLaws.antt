@@ -20,7 +20,7 @@ use Rattle.table.specs.Rules.{within, faultOf}
 use Rattle.table.proofs.Sound.{Sound, sound}
 use Rattle.executor.specs.declared.Machine.{Machine}
 use Rattle.executor.specs.Numbers.{mostTicks, mostWaiting, largestCost}
-use Rattle.executor.specs.State.{waitingOf, finishedAt, runs, isPolled, isBlank, tableFault, beyondFault, countFault, cacheFault, slotFault, runFault}
+use Rattle.executor.specs.State.{waitingOf, finishedAt, runs, isBlank, tableFault, beyondFault, countFault, cacheFault, slotFault, runFault}
 use Rattle.executor.specs.Work.{isSpare, Ready, stateFault}
 use Rattle.executor.proofs.FaultLaws.{some-miss}
 

@@ -1,10 +1,10 @@
 -- The slots of a mask, taken one after the other. Assumes nothing.
 -- first-below: a mask that is not 0 has a first slot. lowest-set: and has it. without-less: what is left of a mask once a slot is taken out.
 -- gather-took, gather-left: a mask gathered slot by slot.
-use mathlib.Core.Path.{_≡_, refl, sym, ap, _∙_}
+use mathlib.Core.Path.{_≡_, ap, _∙_}
 use mathlib.Core.Logic.{_⊎_, inl, inr, _≢_}
 use mathlib.Core.Bool.{Bool, true, false, cond}
-use Prim.Native.Nat.{ℕ, _+_, _-_, _^_, _≤_, _<_}
+use Prim.Native.Nat.{ℕ, _+_, _-_, _^_, _<_}
 use native.Mathlib.Nat.{eq-or-lt-of-le}
 use native.Mathlib.Numerals.{add-one}
 use native.Mathlib.Omega.{arith}

@@ -6,14 +6,13 @@ use mathlib.Core.Logic.{_≢_}
 use mathlib.Core.Bool.{Bool, true, false, and-false}
 use Prim.Native.Nat.{ℕ, zero, suc, _≤_, _<_}
 use native.Mathlib.Omega.{arith}
-use lib.Dec.{eqb, leb}
+use lib.Dec.{leb}
 use borrow.Author.Tests.{eq-eqb, ne-eqb, le-leb, lt-leb}
 use Rattle.table.specs.declared.Refusal.{Refusal}
 use Rattle.table.specs.Values.{refuse, accepted}
 use Rattle.table.specs.Rules.{within, lowestRefused}
 use Rattle.table.proofs.RulesLaws.{lowest-refused, lowest-passed}
 use Rattle.executor.specs.declared.Machine.{Machine}
-use Rattle.executor.specs.declared.Ticked.{Ticked}
 use Rattle.executor.specs.Numbers
 use Rattle.executor.specs.State.{faulty}
 use Rattle.executor.specs.Effect.{effect}

@@ -1,7 +1,7 @@
 -- Step 4 by the index of a callback rather than its slot. Assumes nothing.
 -- activated-none, activated-some: the next of a completion gains 1. index-slot: an index from 1 is that of a slot.
 -- lessened-room: where one leaves a count, each still has room. worked-last, worked-more: a unit is the last or not.
-use mathlib.Core.Path.{_≡_, refl, sym, ap, _∙_}
+use mathlib.Core.Path.{_≡_, refl, sym, ap}
 use mathlib.Core.Logic.{_⊎_, inl, inr, _≢_}
 use mathlib.Core.Bool.{Bool}
 use mathlib.Core.List.{List}
@@ -9,11 +9,10 @@ use Prim.Native.Nat.{ℕ, zero, suc, _+_, _-_, _≤_, _<_}
 use native.Mathlib.Nat.{le-refl}
 use native.Mathlib.Decide.{ℕ-discrete}
 use native.Mathlib.Omega.{arith}
-use lib.ListN.{length, getD, set, length-set}
+use lib.ListN.{length, getD, set}
 use lib.Seq.{getD-set-same, getD-set-other, set-out}
 use borrow.Author.Tests.{eq-eqb, ne-eqb}
 use Rattle.curves.proofs.SumLaws.{le-or-lt}
-use Rattle.table.specs.Numbers.{places}
 use Rattle.table.specs.Values.{nextOf}
 use Rattle.executor.specs.Numbers.{mostWaiting}
 use Rattle.executor.specs.declared.Choice.{Choice}

@@ -8,7 +8,7 @@ ghost use Rattle.executor.specs.Reply.{answerNumber, answerCallback, ans
 
 impl Answer {
     // 1 no supply, 2 idle, 3 ran, 4 finished.
-    pub fn number(self) -> u8
+    pub(crate) fn number(self) -> u8
         ensures { λ r. ⌜ r ≡ answerNumber self ⌝ }
     {
         match self {
@@ -20,7 +20,7 @@ impl Answer {
     }
 
     // The callback named, an index from 1; 0 where none is.
-    pub fn callback(self) -> u8
+    pub(crate) fn callback(self) -> u8
         ensures { λ r. ⌜ r ≡ answerCallback self ⌝ }
     {
         match self {
@@ -32,7 +32,7 @@ impl Answer {
     }
 
     // The instance named, from 1; 0 where none is.
-    pub fn instance(self) -> u32
+    pub(crate) fn instance(self) -> u32
         ensures { λ r. ⌜ r ≡ answerInstance self ⌝ }
     {
         match self {
@@ -44,7 +44,7 @@ impl Answer {
     }
 
     // The callback whose instance finished, an index from 1; 0 where none did.
-    pub fn finished(self) -> u8
+    pub(crate) fn finished(self) -> u8
         ensures { λ r. ⌜ r ≡ answerFinished self ⌝ }
     {
         match self {
@@ -88,7 +88,7 @@ impl Reply {
     }
 
     // The callback whose instance finished, 0 where none did.
-    pub fn finished(self) -> u8
+    pub(crate) fn finished(self) -> u8
         ensures { λ r. ⌜ r ≡ finishedOf self ⌝ }
     {
         match self {

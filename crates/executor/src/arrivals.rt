@@ -9,7 +9,7 @@ ghost use Rattle.executor.specs.Numbers.{mostWaiting};
 ghost use Rattle.executor.specs.Effect.{arrived};
 
 // The waiting counts with one more for each slot of the mask.
-pub fn arrive(waiting: [u16; 16], mask: u16) -> [u16; 16]
+pub(crate) fn arrive(waiting: [u16; 16], mask: u16) -> [u16; 16]
     requires { ⌜ ((i : ℕ) → i < places → getD waiting i 0 ≤ mostWaiting) ⌝ }
     ensures { λ r. ⌜ r ≡ arrived mask waiting ⌝ }
 {

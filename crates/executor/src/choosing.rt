@@ -12,7 +12,7 @@ ghost use Rattle.executor.specs.Effect.{waits};
 ghost use Rattle.executor.specs.Work.{chooseIn};
 
 // The slots below n that wait.
-pub fn waiting_slots(waiting: [u16; 16], n: u8) -> u16
+pub(crate) fn waiting_slots(waiting: [u16; 16], n: u8) -> u16
     requires { ⌜ n ≤ places ⌝ }
     ensures { λ r. ⌜ r ≡ gather (waits waiting) n ⌝ }
 {
@@ -35,7 +35,7 @@ fn how_many(mask: u16) -> u8
 }
 
 // The first timer that waits; else the first in the cache; else the first of those that a poll gathers.
-pub fn choose(kinds: Kinds, cache: u16, waits: u16) -> Choice
+pub(crate) fn choose(kinds: Kinds, cache: u16, waits: u16) -> Choice
     ensures { λ r. ⌜ r ≡ chooseIn kinds cache waits ⌝ }
 {
     let timer = foremost(kinds, kinds.timers & waits);

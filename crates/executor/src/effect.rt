@@ -60,7 +60,7 @@ impl Machine {
     }
 
     // The whole tick; unsupplied, it ends with the arrivals.
-    pub fn effect(self, mask: u16, supplied: bool, cost: u16) -> Ticked
+    pub(crate) fn effect(self, mask: u16, supplied: bool, cost: u16) -> Ticked
         requires { ⌜ (Ready mostWaiting self) × (0 < cost) ⌝ }
         ensures { λ r. ⌜ r ≡ effect self mask supplied cost ⌝ }
     {

@@ -137,7 +137,7 @@ fn spare_fault(t: Table) -> bool
 }
 
 // Whether the reader refuses such a table, or gives none such.
-pub fn table_fault(t: Table) -> bool
+pub(crate) fn table_fault(t: Table) -> bool
     ensures { λ r. ⌜ r ≡ tableFault t ⌝ }
 {
     let r = table::rules::fault(t);
@@ -149,7 +149,7 @@ pub fn table_fault(t: Table) -> bool
 
 impl Machine {
     // The faults of the state around its table.
-    pub fn state_fault(self) -> bool
+    pub(crate) fn state_fault(self) -> bool
         ensures { λ r. ⌜ r ≡ stateFault self ⌝ }
     {
         let t = self.table;

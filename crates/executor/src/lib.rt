@@ -1,7 +1,9 @@
 // The executor as a machine that moves tick by tick (document 01, 'One tick of the machine').
-// answers: what a reply says, for hosts. arrivals: step 1.
+// starting: a machine from a table's bytes. ticks: one tick, its refusals in their order. faults: what number 29 refuses.
+// effect: steps 1 to 4 put together; arrivals, choosing, work: steps 1, 3 and 4. slots: the slots of a mask.
+// answers: what a reply says, for hosts. numbers: limits and refusal numbers.
 
-pub mod answers;
+mod answers;
 mod arrivals;
 mod choosing;
 mod effect;

@@ -6,7 +6,7 @@ ghost use Rattle.masks.specs.Mask.{firstOf, except};
 ghost use Rattle.table.specs.Numbers.{places};
 
 // The lowest slot of a mask that has one.
-pub fn lowest(mask: u16) -> u16
+pub(crate) fn lowest(mask: u16) -> u16
     requires { ⌜ (mask ≡ 0 → ⊥) ⌝ }
     ensures { λ r. ⌜ (r ≡ firstOf mask) × (r < places) ⌝ }
 {
@@ -14,7 +14,7 @@ pub fn lowest(mask: u16) -> u16
 }
 
 // The slots of a mask that are not in another.
-pub fn outside(mask: u16, other: u16) -> u16
+pub(crate) fn outside(mask: u16, other: u16) -> u16
     ensures { λ r. ⌜ r ≡ except mask other ⌝ }
 {
     mask & !other

@@ -78,7 +78,7 @@ impl Machine {
     }
 
     // A unit of the instance chosen, of which so many are left before.
-    pub fn work(self, choice: Choice, units: u16, started: bool) -> Ticked
+    pub(crate) fn work(self, choice: Choice, units: u16, started: bool) -> Ticked
         requires { ⌜ (Workable self choice) × (0 < units) ⌝ }
         ensures { λ r. ⌜ r ≡ workedBy self choice units started ⌝ }
     {

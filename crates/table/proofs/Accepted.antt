@@ -6,24 +6,21 @@ use mathlib.Core.Path.{_≡_, refl, sym, ap, _∙_}
 use mathlib.Core.Logic.{_⊎_, inl, inr, _≢_}
 use mathlib.Core.Bool.{Bool, true, false, not}
 use mathlib.Core.List.{List}
-use Prim.Native.Nat.{ℕ, zero, suc, _+_, _≤_, _<_}
+use Prim.Native.Nat.{ℕ, zero, suc, _≤_, _<_}
 use native.Mathlib.Nat.{eq-or-lt-of-le, le-of-suc-le-suc}
 use native.Mathlib.Decide.{ℕ-discrete}
 use native.Mathlib.Omega.{arith}
 use lib.Dec.{eqb}
-use lib.ListN.{length, getD, set, replicate, length-set, length-replicate, getD-replicate}
+use lib.ListN.{length, getD, set, length-set, length-replicate, getD-replicate}
 use lib.Seq.{getD-set-same, getD-set-other}
 use borrow.Author.Tests.{not-false, eqb-true}
-use Rattle.masks.specs.Mask.{gather, has}
 use Rattle.masks.proofs.Gather.{gather-in}
 use Rattle.lent.specs.Bytes.{zeros}
 use Rattle.curves.proofs.SumLaws.{le-or-lt}
-use Rattle.table.specs.declared.Callback.{Callback}
 use Rattle.table.specs.declared.Reading.{Reading}
 use Rattle.table.specs.declared.Refusal.{Refusal}
-use Rattle.table.specs.declared.Table.{Table}
 use Rattle.table.specs.Numbers.{places, headerLength}
-use Rattle.table.specs.Values.{accepted, blank, blankTable, vacant, callbackAt}
+use Rattle.table.specs.Values.{accepted, blank, vacant, callbackAt}
 use Rattle.table.specs.Rules.{faultWith, faultOf}
 use Rattle.table.specs.Format.{recordAt, spareAt, recordStart, recordsTo, tableAt, sparesAt, readFault, refusedReading, readOf}
 use Rattle.table.proofs.FormatLaws.{read-short, read-long, reading-refused, reading-whole}

@@ -1,20 +1,19 @@
 -- The refusals of a table in their order: what each test of the header leads to, and what the links' masks say. Assumes nothing.
 -- fault-edition, fault-none, fault-many, fault-off, fault-spare, fault-supply, fault-horizon, fault-rest: the header, test by test.
 -- twice-law, timer-law, wrong-law: the lowest callbacks of 11, 12 and 14, from the masks.
-use mathlib.Core.Path.{_≡_, refl, sym, ap, ap₂, _∙_}
+use mathlib.Core.Path.{_≡_, ap, ap₂, _∙_}
 use mathlib.Core.Logic.{_≢_}
 use mathlib.Core.Bool.{Bool, true, false, and-false, _&&_}
 use Prim.Native.Nat.{ℕ, _-_, _^_, _≤_, _<_}
 use native.Mathlib.Omega.{arith}
-use lib.Dec.{eqb, ltb, leb}
+use lib.Dec.{eqb, leb}
 use borrow.Author.Tests.{eq-eqb, ne-eqb, lt-ltb, le-ltb, le-leb, lt-leb}
 use Rattle.masks.specs.Mask.{has, both, gather, except}
 use Rattle.masks.proofs.Gather.{gather-in}
-use Rattle.curves.specs.Least.{lowest, lowestFrom}
+use Rattle.curves.specs.Least.{lowest}
 use Rattle.curves.proofs.LeastLaws.{lowest-same}
 use Rattle.table.specs.declared.Kinds.{Kinds}
 use Rattle.table.specs.declared.Names.{Names}
-use Rattle.table.specs.declared.Refusal.{Refusal}
 use Rattle.table.specs.declared.Table.{Table}
 use Rattle.table.specs.Numbers
 use Rattle.table.specs.Values.{refuse, orElse, callbackAt, kindOf}

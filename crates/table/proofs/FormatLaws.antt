@@ -2,14 +2,14 @@
 -- spare-first, spare-second, spare-third: a record's spare bytes. spares-in, spares-out: the mask of records. records-more: one record more.
 -- table-whole: all of them under their header. read-short, read-edition, read-none, read-many, read-off, read-whole: the reader, test by test.
 -- reading-refused, reading-whole: what it hands back.
-use mathlib.Core.Path.{_≡_, refl, sym, ap, ap₂, _∙_}
+use mathlib.Core.Path.{_≡_, sym, ap, ap₂, _∙_}
 use mathlib.Core.Logic.{_≢_}
-use mathlib.Core.Bool.{Bool, true, false, not, _&&_, and-false}
+use mathlib.Core.Bool.{Bool, true, false, not, and-false}
 use mathlib.Core.List.{List}
-use Prim.Native.Nat.{ℕ, zero, suc, _+_, _-_, _*_, _≤_, _<_}
+use Prim.Native.Nat.{ℕ, _+_, _-_, _≤_, _<_}
 use native.Mathlib.Numerals.{add-one}
 use native.Mathlib.Omega.{arith}
-use lib.Dec.{eqb, ltb}
+use lib.Dec.{eqb}
 use lib.ListN.{length, getD, set}
 use borrow.Author.Tests.{eq-eqb, ne-eqb, lt-ltb, le-ltb}
 use Rattle.masks.specs.Mask.{withBit, gather}
@@ -19,7 +19,7 @@ use Rattle.table.specs.declared.Reading.{Reading}
 use Rattle.table.specs.declared.Refusal.{Refusal}
 use Rattle.table.specs.declared.Table.{Table}
 use Rattle.table.specs.Numbers.{headerLength, shortHeader, unknownEdition, wrongCount, wrongLength}
-use Rattle.table.specs.Values.{refuse, blankTable}
+use Rattle.table.specs.Values.{refuse}
 use Rattle.table.specs.Rules.{faultWith}
 use Rattle.table.specs.Format.{recordAt, spareAt, recordStart, recordsTo, tableAt, sparesAt, readFault, refusedReading, readOf}
 use Rattle.table.proofs.FaultLaws.{fault-edition, fault-none, fault-many, fault-off}

@@ -4,14 +4,12 @@
 -- rank-up, walk-over: along next a rank rises, and every walk ends. fed-once, feeder-is: each is fed once at most.
 -- top, down, head-self, head-is-head, head-only: a head's head is itself, a follower's is its feeder's, it is a head, and there is no other.
 use mathlib.Core.Path.{_≡_, refl, sym, ap, _∙_, subst}
-use mathlib.Core.Logic.{_⊎_, inl, inr, _≢_}
-use mathlib.Core.Bool.{Bool, true, false, not}
-use Prim.Native.Nat.{ℕ, zero, suc, pred, _+_, _-_, _≤_, _<_}
+use mathlib.Core.Bool.{Bool, true, false}
+use Prim.Native.Nat.{ℕ, zero, suc, _+_, _-_, _≤_, _<_}
 use native.Mathlib.Omega.{arith}
 use lib.Dec.{T, T-not, eqb, eqb→eq}
-use borrow.Author.Tests.{eq-eqb, ne-eqb}
-use Rattle.curves.specs.Least.{lowest, lowestFrom}
-use Rattle.curves.specs.Sum.{sum, given}
+use borrow.Author.Tests.{eq-eqb}
+use Rattle.curves.specs.Sum.{given}
 use Rattle.curves.specs.Walk.{walk}
 use Rattle.curves.proofs.SumLaws.{sum-part, sum-none}
 use Rattle.curves.proofs.LeastLaws.{lowest-hit, lowest-none}

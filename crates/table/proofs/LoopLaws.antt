@@ -3,16 +3,16 @@
 use mathlib.Core.Path.{_≡_, refl, sym, ap, _∙_}
 use mathlib.Core.Logic.{_⊎_, inl, inr, _≢_}
 use mathlib.Core.Bool.{Bool, true, false, not}
-use Prim.Native.Nat.{ℕ, zero, suc, _+_, _-_, _≤_, _<_}
+use Prim.Native.Nat.{ℕ, suc, _+_, _-_, _≤_, _<_}
 use native.Mathlib.Nat.{add-comm, eq-or-lt-of-le}
 use native.Mathlib.Numerals.{add-one}
 use native.Mathlib.Omega.{arith}
 use lib.Dec.{eqb}
-use lib.ListN.{length, getD, List·getD-eq-default}
+use lib.ListN.{length, List·getD-eq-default}
 use borrow.Author.Tests.{eq-eqb, ne-eqb}
 use Rattle.curves.specs.Least.{least}
 use Rattle.curves.specs.Walk.{walk}
-use Rattle.curves.proofs.LeastLaws.{First, Nowhere, least-spec, rest, rest-start, rest-hit, rest-miss, rest-end}
+use Rattle.curves.proofs.LeastLaws.{First, Nowhere, least-spec, rest, rest-hit, rest-miss, rest-end}
 use Rattle.curves.proofs.EveryLaws.{holds, never-both}
 use Rattle.curves.proofs.WalkLaws.{walk-zero, walk-add}
 use Rattle.table.specs.declared.Callback.{Callback}

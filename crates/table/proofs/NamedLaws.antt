@@ -8,9 +8,9 @@ use native.Mathlib.Nat.{pow-suc, one-mul, mod-eq-of-lt}
 use native.Mathlib.Numerals.{add-one}
 use native.Mathlib.Decide.{ℕ-discrete}
 use native.Mathlib.Omega.{arith}
-use lib.Dec.{eqb, ltb, leb}
+use lib.Dec.{eqb, leb}
 use lib.Pow.{pow-pos, pow-mono, pow-lt}
-use borrow.Author.Tests.{eq-eqb, ne-eqb, lt-ltb, le-ltb, le-leb, lt-leb, leb-true, leb-false, ltb-true, ltb-false}
+use borrow.Author.Tests.{eq-eqb, ne-eqb, lt-ltb, le-ltb, le-leb, leb-true, leb-false}
 use Rattle.masks.specs.Mask.{has, withBit, gather, except}
 use Rattle.masks.proofs.Slots.{has-with-same, has-with-other, has-except, with-lt, mask-ext, has-above}
 use Rattle.masks.proofs.Gather.{gather-lt, gather-in, gather-same}
@@ -65,7 +65,7 @@ module _ (t : Table) (n : ℕ) where
 
   pub names-start : record { once = 0; twice = 0 } ≡ namesTo t n 0
   unfolding namesTo namedBy sum
-  names-start = simp (gather-none (λ _. leb 1 0) n (λ i. refl), gather-none (λ _. leb 2 0) n (λ i. refl))
+  names-start = simp (gather-none (λ _. false) n (λ i. refl))
 
   module _ (k : ℕ) where
     -- the same slots, but for the one that record k names

@@ -4,21 +4,20 @@
 use mathlib.Core.Path.{_≡_, refl, sym, ap, ap₂, _∙_}
 use mathlib.Core.Logic.{_≢_}
 use mathlib.Core.Bool.{Bool, true, false, _&&_, and-assoc}
-use Prim.Native.Nat.{ℕ, zero, suc, _+_, _^_, _≤_, _<_}
-use native.Mathlib.Nat.{lt-of-le-of-lt, lt-of-lt-of-le}
+use Prim.Native.Nat.{ℕ, zero, suc, _+_, _≤_, _<_}
+use native.Mathlib.Nat.{lt-of-le-of-lt}
 use native.Mathlib.Numerals.{add-one}
 use native.Mathlib.Omega.{arith}
 use lib.Dec.{T, eqb, ltb}
-use lib.Bits.{bitAnd, and-le-l}
+use lib.Bits.{and-le-l}
 use borrow.Author.Tests.{eq-eqb, ne-eqb, lt-ltb, ltb-true}
-use Rattle.masks.specs.Mask.{has, both, firstOf, firstFrom, gather}
+use Rattle.masks.specs.Mask.{has, both, firstOf, gather}
 use Rattle.masks.proofs.Slots.{has-and, has-zero, mask-none}
 use Rattle.masks.proofs.Lowest.{first-is}
 use Rattle.masks.proofs.Gather.{gather-has, gather-mask}
-use Rattle.curves.specs.Least.{lowest, lowestFrom}
-use Rattle.curves.proofs.LeastLaws.{lowest-hit, lowest-first, lowest-none, lowest-same}
+use Rattle.curves.specs.Least.{lowest}
+use Rattle.curves.proofs.LeastLaws.{lowest-hit, lowest-first, lowest-none}
 use Rattle.curves.proofs.EveryLaws.{holds, fails, never-both}
-use Rattle.table.specs.declared.Kinds.{Kinds}
 use Rattle.table.specs.declared.Table.{Table}
 use Rattle.table.specs.Numbers.{timer, subscription, service, client}
 use Rattle.table.specs.Values.{kindOf}

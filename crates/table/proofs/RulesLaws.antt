@@ -20,7 +20,7 @@ use Rattle.table.specs.declared.Refusal.{Refusal}
 use Rattle.table.specs.declared.Table.{Table}
 use Rattle.table.specs.Numbers.{entryPlaces, longest}
 use Rattle.table.specs.Values.{refuse, accepted, orElse, callbackAt}
-use Rattle.table.specs.Rules.{within, costFault, unusedFault, recordFault, recordsFrom, arrivalsFault, lowestRefused}
+use Rattle.table.specs.Rules.{costFault, unusedFault, recordFault, recordsFrom, arrivalsFault, lowestRefused}
 
 -- a test of the order the other way round
 pub not-leb : (a b : ℕ) → not (leb a b) ≡ ltb b a

@@ -1,23 +1,22 @@
 -- What holds of every table that is accepted: sound t, from (faultOf t) .number ≡ 0. Assumes nothing.
-use mathlib.Core.Path.{_≡_, refl, sym, ap, ap₂, _∙_, subst}
+use mathlib.Core.Path.{_≡_, refl, sym, ap, ap₂, _∙_}
 use mathlib.Core.Logic.{_⊎_, inl, inr, _≢_}
-use mathlib.Core.Bool.{Bool, true, false, not, cond, _&&_, _||_}
-use mathlib.Core.List.{List}
+use mathlib.Core.Bool.{Bool, true, false, not, _&&_, _||_}
 use Prim.Native.Nat.{ℕ, zero, suc, _+_, _-_, _≤_, _<_}
 use native.Mathlib.Nat.{eq-or-lt-of-le, le-of-suc-le-suc}
 use native.Mathlib.Decide.{ℕ-discrete}
 use native.Mathlib.Omega.{arith}
-use lib.Dec.{T, eqb, ltb, leb}
-use lib.ListN.{length, getD, take, List·getD-eq-default}
+use lib.Dec.{eqb, ltb, leb}
+use lib.ListN.{length, List·getD-eq-default}
 use lib.Seq.{length-take-le}
-use borrow.Author.Tests.{not-false, eq-eqb, le-leb, ltb-true, ltb-false, leb-true, leb-false, eqb-true, eqb-false}
+use borrow.Author.Tests.{not-false, eq-eqb, ltb-true, ltb-false, leb-true, leb-false, eqb-true}
 use Rattle.masks.specs.Mask.{has}
 use Rattle.curves.specs.Cost.{entry}
 use Rattle.curves.specs.Every.{every}
-use Rattle.curves.specs.Least.{least, lowest, lowestFrom}
+use Rattle.curves.specs.Least.{least}
 use Rattle.curves.specs.Sum.{sum, given}
 use Rattle.curves.specs.Walk.{walk}
-use Rattle.curves.proofs.SumLaws.{le-or-lt, sum-part, sum-none}
+use Rattle.curves.proofs.SumLaws.{le-or-lt, sum-part}
 use Rattle.curves.proofs.LeastLaws.{least-by, lowest-none}
 use Rattle.curves.proofs.EveryLaws.{fails, T-holds, never-both, and-holds, or-fails, every-at}
 use Rattle.curves.proofs.CostLaws.{RisingEntries, entry-take}

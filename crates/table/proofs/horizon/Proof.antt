@@ -1,5 +1,4 @@
 -- `table::horizon` meets its contract: H = 0 means 60,000. Assumes nothing.
-use mathlib.Core.Path.{sym}
 use borrow.Author.Tests.{eq-eqb, ne-eqb}
 use Rattle.table.specs.Values.{horizonOf}
 use Rattle.table.proofs.horizon.Statement.{statement}

@@ -1,87 +1,65 @@
+-- One leaves the waiting count, one joins the finished, the cache loses the slot, and next is activated.
 use borrow.Author.Needs.{needs}
 use Rattle.executor.specs.Effect.{finishes}
 use Rattle.executor.proofs.WorkLaws.{lessened-room, index-slot}
 use Rattle.executor.proofs.Machine.finish.Statement.{statement}
 use Rattle.executor.proofs.Machine.finish.Tie as tie
-use Rattle.executor.proofs.Machine.finish.Reads as reads
-use Rattle.executor.proofs.Machine.finish.Lts as lts
-use Rattle.executor.proofs.work.activate.Reads as activate-reads
-use Rattle.masks.proofs.clear_slot.Reads as clear-slot-reads
 
--- src/work.rt:34:20
 sub-slot : tie.Need-sub-slot
 sub-slot c = search needs
 
--- src/work.rt:35:17
 cast-i : tie.Need-cast-i
 cast-i c = search needs
 
--- src/work.rt:37:17
 mul-c : tie.Need-mul-c
 mul-c c = search needs
 
--- src/work.rt:37:17
 element-copy-out-c : tie.Need-element-copy-out-c
 element-copy-out-c c = search needs
 
--- src/work.rt:39:21
 mul-counts : tie.Need-mul-counts
 mul-counts c = search needs
 
--- src/work.rt:39:21
 array-read-counts : tie.Need-array-read-counts
 array-read-counts c = search needs
 
--- src/work.rt:39:21
 sub-counts : tie.Need-sub-counts
 sub-counts c = search needs
 
--- src/work.rt:39:9
 mul-counts-2 : tie.Need-mul-counts-2
 mul-counts-2 c = search needs
 
--- src/work.rt:39:9
 array-write-counts : tie.Need-array-write-counts
 array-write-counts c = search needs
 
--- src/work.rt:40:21
 activate-requires : tie.Need-activate-requires
 activate-requires c κs =
     (c .before .before .before .before .pre .linked, lessened-room (c .before .before .before .before .args .self) (c .before .before .before .before .args .choice) (c .before .before .before .before .pre))
 
--- src/work.rt:41:24
 mul-instance : tie.Need-mul-instance
 mul-instance c = search needs
 
--- src/work.rt:41:24
 element-copy-out-instance : tie.Need-element-copy-out-instance
 element-copy-out-instance c = search needs
 
--- src/work.rt:41:24
 add-instance : tie.Need-add-instance
 add-instance c = search needs
 
--- src/work.rt:42:9
 mul-m : tie.Need-mul-m
 mul-m c = search needs
 
--- src/work.rt:42:9
 element-write-m : tie.Need-element-write-m
 element-write-m c = search needs
 
--- src/work.rt:43:51
 cast-clear-slot : tie.Need-cast-clear-slot
 cast-clear-slot c = search needs
 
--- src/work.rt:43:19
 clear-slot-requires : tie.Need-clear-slot-requires
 clear-slot-requires c κs = search needs
 
--- src/work.rt:46:19
 add-m : tie.Need-add-m
 add-m c = search needs
 
--- src/work.rt:29:5
 returns : tie.Need-returns
 unfolding finishes
 returns c =

@@ -1,6 +1,5 @@
 -- A refused reply holds its refusal; an answered one has none.
 use borrow.Author.Needs.{needs}
-use Rattle.executor.specs.Reply.{refusalOf}
 use Rattle.executor.proofs.Reply.refusal.Statement.{statement}
 use Rattle.executor.proofs.Reply.refusal.Tie as tie
 

@@ -1,11 +1,8 @@
 -- The slots still in `rest`, counted from what stands, give what the whole mask gives from the counts at entry. What is left of the mask falls.
-use mathlib.Core.Path.{_≡_, refl, sym, ap, _∙_}
-use mathlib.Core.Bool.{true}
+use mathlib.Core.Path.{refl, sym, ap, _∙_}
 use Prim.Native.Nat.{ℕ}
 use native.Mathlib.Omega.{arith}
 use borrow.Author.Needs.{needs}
-use Rattle.masks.specs.Mask.{has}
-use Rattle.masks.proofs.Lowest.{first-of-set}
 use Rattle.executor.specs.Effect.{arrived}
 use Rattle.executor.proofs.SlotLaws.{lowest-set, without-less}
 use Rattle.executor.proofs.ArrivedLaws.{Counting, counting-one, arrived-none}

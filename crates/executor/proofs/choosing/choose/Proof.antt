@@ -1,44 +1,32 @@
+-- The three searches of step 3 in turn.
 use mathlib.Core.Path.{sym, _∙_}
 use Rattle.executor.proofs.ChooseLaws.{first-timer, first-cached, at-poll}
 use borrow.Author.Needs.{needs}
 use Rattle.executor.proofs.choosing.choose.Statement.{statement}
 use Rattle.executor.proofs.choosing.choose.Tie as tie
-use Rattle.executor.proofs.choosing.choose.Reads as reads
-use Rattle.executor.proofs.choosing.choose.Lts as lts
-use Rattle.executor.proofs.choosing.how_many.Reads as how-many-reads
-use Rattle.executor.proofs.slots.outside.Reads as outside-reads
-use Rattle.table.proofs.priority.foremost.Reads as foremost-reads
 
--- src/choosing.rt:42:9
 foremost-requires : tie.Need-foremost-requires
 foremost-requires c κs = search needs
 
--- src/choosing.rt:44:9
 returns : tie.Need-returns
 returns c = first-timer _ _ _ _ (c .before .foremost .ensures) (c .if1 .taken)
 
--- src/choosing.rt:51:9
 foremost-requires-2 : tie.Need-foremost-requires-2
 foremost-requires-2 c κs = search needs
 
--- src/choosing.rt:53:9
 returns-2 : tie.Need-returns-2
 returns-2 c =
     first-cached _ _ _ _ (sym (c .before .before .before .foremost .ensures) ∙ c .before .before .if1 .left) (c .before .foremost2 .ensures) (c .if2 .taken)
 
--- src/choosing.rt:60:9
 outside-requires : tie.Need-outside-requires
 outside-requires c κs = search needs
 
--- src/choosing.rt:62:17
 foremost-requires-3 : tie.Need-foremost-requires-3
 foremost-requires-3 c κs = search needs
 
--- src/choosing.rt:65:19
 how-many-requires : tie.Need-how-many-requires
 how-many-requires c κs = search needs
 
--- src/choosing.rt:39:1
 returns-3 : tie.Need-returns-3
 returns-3 c =
     at-poll _ _ _ _ _ _

@@ -1,7 +1,7 @@
 -- The mask has the slots passed that wait.
-use mathlib.Core.Path.{_≡_, refl, sym, ap, _∙_}
+use mathlib.Core.Path.{_≡_, refl, ap, _∙_}
 use mathlib.Core.Logic.{⊎-elim}
-use Prim.Native.Nat.{ℕ, _+_, _-_, _≤_}
+use Prim.Native.Nat.{ℕ, _-_, _≤_}
 use native.Mathlib.Nat.{le-antisymm}
 use native.Mathlib.Omega.{arith}
 use borrow.Author.Needs.{needs}
@@ -11,9 +11,6 @@ use Rattle.executor.specs.Effect.{waits}
 use Rattle.executor.proofs.SlotLaws.{gather-took, gather-left}
 use Rattle.executor.proofs.choosing.waiting_slots.Statement.{statement}
 use Rattle.executor.proofs.choosing.waiting_slots.Tie as tie
-use Rattle.executor.proofs.choosing.waiting_slots.Reads as reads
-use Rattle.executor.proofs.choosing.waiting_slots.Lts as lts
-use Rattle.masks.proofs.set_slot.Reads as set-slot-reads
 
 abbrev Inv-loop : tie.InvT-loop
 Inv-loop n waiting mask₀ i₀ mask i = (i ≤ n) × (mask ≡ gather (waits waiting) i)
@@ -21,40 +18,31 @@ Inv-loop n waiting mask₀ i₀ mask i = (i ≤ n) × (mask ≡ gather (waits wa
 abbrev μ-loop : tie.MeasureT-loop
 μ-loop n waiting mask₀ i₀ mask i = n - i
 
--- src/choosing.rt:21:5
 loop-holds : tie.Need-loop-holds Inv-loop μ-loop
 unfolding gather
 loop-holds c = (omega arith, refl)
 
--- src/choosing.rt:22:20
 cast-if1 : tie.Need-cast-if1 Inv-loop μ-loop
 cast-if1 c = search needs
 
--- src/choosing.rt:22:12
 mul-if1 : tie.Need-mul-if1 Inv-loop μ-loop
 mul-if1 c = search needs
 
--- src/choosing.rt:22:12
 array-read-if1 : tie.Need-array-read-if1 Inv-loop μ-loop
 array-read-if1 c = search needs
 
--- src/choosing.rt:23:42
 cast-set-slot : tie.Need-cast-set-slot Inv-loop μ-loop
 cast-set-slot c = search needs
 
--- src/choosing.rt:23:13
 set-slot-requires : tie.Need-set-slot-requires Inv-loop μ-loop
 set-slot-requires c κs = search needs
 
--- src/choosing.rt:25:9
 add-i : tie.Need-add-i Inv-loop μ-loop
 add-i c = search needs
 
--- src/choosing.rt:21:5
 loop-less : tie.Need-loop-less Inv-loop μ-loop
 loop-less c = search needs
 
--- src/choosing.rt:21:5
 loop-again : tie.Need-loop-again Inv-loop μ-loop
 loop-again c = (
   omega arith,
@@ -64,7 +52,6 @@ loop-again c = (
       (c .if1 .came),
 )
 
--- src/choosing.rt:15:1
 returns : tie.Need-returns Inv-loop μ-loop
 returns c = c .before .loop .inv .1 ∙ ap (gather (waits (c .before .before .args .t1))) (le-antisymm (c .before .loop .inv .0) (c .loop-test .left))
 

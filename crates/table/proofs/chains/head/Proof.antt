@@ -2,7 +2,7 @@
 use mathlib.Core.Path.{_≡_, sym, ap, _∙_}
 use Prim.Native.Nat.{ℕ, _≤_, _<_, _-_, _+_}
 use native.Mathlib.Omega.{arith}
-use Rattle.table.specs.Links.{feeder, headFrom, headOf}
+use Rattle.table.specs.Links.{headFrom, headOf}
 use Rattle.table.proofs.ChainLaws.{feeder-le, head-start, head-top, head-up, head-end}
 use borrow.Author.Needs.{needs}
 use Rattle.table.proofs.chains.head.Statement.{statement}

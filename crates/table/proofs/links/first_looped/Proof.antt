@@ -2,7 +2,7 @@
 use mathlib.Core.Path.{_≡_, sym, _∙_}
 use Prim.Native.Nat.{_≤_, _-_}
 use native.Mathlib.Omega.{arith}
-use Rattle.curves.specs.Least.{lowest, lowestFrom}
+use Rattle.curves.specs.Least.{lowest}
 use Rattle.curves.proofs.LeastLaws.{restSlots, slots-start, slots-end, slots-hit, slots-miss}
 use Rattle.table.specs.Links.{onLoop}
 use borrow.Author.Needs.{needs}

@@ -4,7 +4,7 @@ use mathlib.Core.Bool.{Bool, true, false}
 use Prim.Native.Nat.{ℕ, _≤_, _-_}
 use native.Mathlib.Omega.{arith}
 use Rattle.masks.specs.Mask.{has}
-use Rattle.curves.specs.Least.{lowest, lowestFrom}
+use Rattle.curves.specs.Least.{lowest}
 use Rattle.curves.proofs.LeastLaws.{restSlots, slots-start, slots-end, slots-hit, slots-miss}
 use Rattle.table.specs.declared.Table.{Table}
 use Rattle.table.specs.Values.{callbackAt}

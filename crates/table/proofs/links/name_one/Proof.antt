@@ -1,9 +1,8 @@
 -- `table::links::name_one` meets its contract: next 0 and next beyond n name nothing, any other names its slot. Assumes nothing.
 use mathlib.Core.Path.{_≡_, sym, ap, _∙_}
-use Prim.Native.Nat.{ℕ, suc, _-_}
+use Prim.Native.Nat.{suc, _-_}
 use native.Mathlib.Omega.{arith}
 use borrow.Author.Needs.{needs}
-use Rattle.table.specs.declared.Names.{Names}
 use Rattle.table.specs.Links.{nameOne}
 use Rattle.table.proofs.NamedLaws.{name-out, name-again, name-first}
 use Rattle.table.proofs.links.name_one.Statement.{statement}

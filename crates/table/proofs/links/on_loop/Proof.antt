@@ -1,8 +1,8 @@
 -- `table::links::on_loop` meets its contract: x is where k steps lead, and none of them led back. Assumes nothing.
-use mathlib.Core.Path.{_≡_, refl, sym, _∙_}
-use Prim.Native.Nat.{ℕ, _≤_, _-_, _+_}
+use mathlib.Core.Path.{_≡_, sym, _∙_}
+use Prim.Native.Nat.{_≤_, _-_, _+_}
 use native.Mathlib.Omega.{arith}
-use lib.ListN.{length, length-map}
+use lib.ListN.{length-map}
 use Rattle.curves.specs.Least.{least}
 use Rattle.curves.proofs.LeastLaws.{rest, rest-start}
 use Rattle.table.proofs.LoopLaws.{place, back, walk-start, walk-step, returned, ended, ended-far, not-returned, all-walked}

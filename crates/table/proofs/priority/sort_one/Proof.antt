@@ -1,5 +1,5 @@
 -- `table::priority::sort_one` meets its contract: the slot goes into the mask of its kind. Assumes nothing.
-use borrow.Author.Tests.{eq-eqb, ne-eqb}
+use borrow.Author.Tests.{ne-eqb}
 use Rattle.table.specs.Priority.{sortOne}
 use borrow.Author.Needs.{needs}
 use Rattle.table.proofs.priority.sort_one.Statement.{statement}

@@ -2,8 +2,6 @@
 use mathlib.Core.Path.{sym, ap, _∙_}
 use native.Mathlib.Omega.{arith}
 use denote.Ref.{now}
-use Rattle.table.specs.declared.Reading.{Reading}
-use Rattle.table.specs.declared.Refusal.{Refusal}
 use Rattle.table.specs.declared.Table.{Table}
 use Rattle.table.specs.Format.{refusedReading}
 use Rattle.table.proofs.FormatLaws.{read-short, read-edition, read-none, read-many, read-off, read-whole, reading-refused, reading-whole}

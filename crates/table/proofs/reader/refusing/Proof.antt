@@ -1,6 +1,5 @@
 -- `table::reader::refusing` meets its contract. Assumes nothing.
 use mathlib.Core.Path.{ap}
-use Rattle.table.specs.declared.Reading.{Reading}
 use Rattle.table.specs.declared.Table.{Table}
 use borrow.Author.Needs.{needs}
 use Rattle.table.proofs.reader.refusing.Statement.{statement}

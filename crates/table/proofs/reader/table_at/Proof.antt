@@ -1,13 +1,10 @@
 -- `table::reader::table_at` meets its contract: after i records the first i places are filled. Assumes nothing.
-use mathlib.Core.Path.{_≡_, refl, sym, ap, _∙_}
-use mathlib.Core.List.{List}
-use Prim.Native.Nat.{ℕ, _≤_, _-_}
+use mathlib.Core.Path.{_≡_}
+use Prim.Native.Nat.{_≤_, _-_}
 use native.Mathlib.Nat.{le-antisymm}
 use native.Mathlib.Omega.{arith}
 use denote.Ref.{now}
 use lib.ListN.{getD}
-use Rattle.table.specs.declared.Callback.{Callback}
-use Rattle.table.specs.declared.Table.{Table}
 use Rattle.table.specs.Format.{recordsTo}
 use Rattle.table.proofs.FormatLaws.{recorded, records-more, table-whole}
 use borrow.Author.Needs.{needs}

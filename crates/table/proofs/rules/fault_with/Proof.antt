@@ -1,8 +1,6 @@
 -- `table::rules::fault_with` meets its contract: the header's tests in their order, then the records, then the links. Assumes nothing.
 use mathlib.Core.Path.{sym, ap, _∙_}
 use Rattle.table.specs.declared.Refusal.{Refusal}
-use Rattle.table.specs.Values.{orElse}
-use Rattle.table.specs.Rules.{linksFault}
 use Rattle.table.proofs.RulesLaws.{first-refused, first-passed}
 use Rattle.table.proofs.FaultLaws.{fault-edition, fault-none, fault-many, fault-off, fault-spare, fault-supply, fault-horizon, fault-rest}
 use borrow.Author.Needs.{needs}

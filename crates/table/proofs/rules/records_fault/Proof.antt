@@ -1,9 +1,7 @@
 -- `table::rules::records_fault` meets its contract: what is left of the records at i is the whole. Assumes nothing.
 use mathlib.Core.Path.{_≡_, sym, ap, _∙_}
-use mathlib.Core.Bool.{Bool}
-use Prim.Native.Nat.{ℕ, _≤_, _-_}
+use Prim.Native.Nat.{_≤_, _-_}
 use native.Mathlib.Omega.{arith}
-use Rattle.masks.specs.Mask.{has}
 use Rattle.table.specs.Values.{callbackAt}
 use Rattle.table.specs.Rules.{recordFault, recordsFrom}
 use Rattle.table.proofs.RulesLaws.{records-next, records-stop, records-end, records-start}
