@@ -1,5 +1,5 @@
 /* Cuorfelt for hosts in C and C++: the callback table's reader, the timing sheet's analyser, and the executor as a machine
- * that moves tick by tick. Link libcuorfelt.a (`rt staticlib cuorfelt`); it needs no other library.
+ * that moves tick by tick. Link libcuorfelt.a (`rt staticlib cuorfelt`); it needs the C library's memcpy and memset alone.
  *
  * A slice is passed as a pointer and a length. Every function may be called with any bytes and any length, allocates nothing, keeps
  * nothing between calls and returns. A pointer must be valid for its length, and memory that is written may not overlap other memory

@@ -1,6 +1,6 @@
 -- SlotLaws: the slots of a mask, taken one after the other. ArrivedLaws: step 1, slot by slot. ChooseLaws: what step 3 gives.
 -- WorkLaws: step 4 by index. EffectLaws: the steps put together. FaultLaws: the faults of number 29. FullLaws: refusals 20 and 21.
--- ReadyLaws: what a state without faults gives. TickLaws: the refusals in their order.
+-- ReadyLaws: what a state without faults gives. TickLaws: the refusals in their order. StartLaws: every tick after a refused start.
 pub mod SlotLaws
 pub mod ArrivedLaws
 pub mod ChooseLaws
@@ -10,3 +10,4 @@ pub mod FaultLaws
 pub mod FullLaws
 pub mod ReadyLaws
 pub mod TickLaws
+pub mod StartLaws

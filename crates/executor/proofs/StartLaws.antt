@@ -1,0 +1,35 @@
+-- "A refused start gives a state that is zero throughout and has no callbacks; every tick on it is refused with 29." Assumes nothing.
+use mathlib.Core.Path.{_≡_, refl, sym, ap, _∙_}
+use mathlib.Core.Logic.{_≢_}
+use mathlib.Core.Bool.{Bool, true}
+use mathlib.Core.List.{List}
+use Prim.Native.Nat.{ℕ}
+use Rattle.table.specs.declared.Reading.{Reading}
+use Rattle.table.specs.Values.{refuse, blankTable}
+use Rattle.table.specs.Rules.{faultWith}
+use Rattle.table.specs.Format.{readFault}
+use Rattle.table.proofs.Accepted.{read-refused}
+use Rattle.executor.specs.declared.Machine.{Machine}
+use Rattle.executor.specs.Numbers.{faultyState}
+use Rattle.executor.specs.State.{fresh, tableFault, faulty}
+use Rattle.executor.specs.Tick.{refused, tickOf}
+use Rattle.executor.specs.Start.{startOf}
+use Rattle.executor.proofs.TickLaws.{tick-faulty}
+
+-- the state beside a refusal has edition 0
+pub zero-faulty : faulty (fresh blankTable) ≡ true
+unfolding faulty tableFault fresh faultWith
+zero-faulty = refl
+
+pub zero-ticked : (mask : ℕ) (supplied : Bool) (cost : ℕ)
+    → tickOf (fresh blankTable) mask supplied cost ≡ refused (fresh blankTable) (refuse faultyState 0)
+zero-ticked mask supplied cost = sym (tick-faulty (fresh blankTable) mask supplied cost (sym zero-faulty))
+
+module _ (b : List ℕ) (h : (readFault b) .number ≢ 0) where
+  pub refused-start : (startOf b) .machine ≡ fresh blankTable
+  unfolding startOf
+  refused-start = ap (λ (r : Reading). fresh (r .table)) (read-refused b h)
+
+  pub refused-ticked : (mask : ℕ) (supplied : Bool) (cost : ℕ)
+      → tickOf ((startOf b) .machine) mask supplied cost ≡ refused (fresh blankTable) (refuse faultyState 0)
+  refused-ticked mask supplied cost = ap (λ (m : Machine). tickOf m mask supplied cost) refused-start ∙ zero-ticked mask supplied cost
