@@ -6,7 +6,7 @@ use sim::generate::tables::{table, Shape};
 use sim::machine::{start, Tick};
 use sim::random::Random;
 use sim::sheet::analyse;
-use sim::table::{encode, Callback, Kind, Table, LARGEST};
+use sim::table::{encode, Callback, Kind, Table, HEADER_BYTES, LARGEST, RECORD_BYTES};
 use sim::text::{script, Line};
 use std::hint::black_box;
 
@@ -125,6 +125,7 @@ pub fn all() -> Vec<Work> {
         Work::sheets("16 callbacks, window 59,984", vec![encode(&longest())]),
         desk_history(),
         busy_history(&mut random),
+        chain_history(&mut random),
     ];
     works.extend(repeated());
     works
@@ -187,7 +188,14 @@ fn desk_history() -> Work {
     Work::ticks("the desk of docs/GUIDE.md", state, offers)
 }
 
-/// Sixteen callbacks, pressed as hard as the curves permit.
+/// Ticks that press as hard as the curves permit.
+fn greedy_history(name: &str, random: &mut Random, table: &Table) -> Work {
+    let history = within(random, table, &Style::greedy(table), 2_000);
+    let offers = history.ticks.iter().map(offered).collect();
+    Work::ticks(name, packed(&start(&encode(table)).state), offers)
+}
+
+/// Sixteen drawn callbacks.
 fn busy_history(random: &mut Random) -> Work {
     let table = loop {
         let table = table(random, Shape::Small);
@@ -196,13 +204,36 @@ fn busy_history(random: &mut Random) -> Work {
             break table;
         }
     };
-    let history = within(random, &table, &Style::greedy(&table), 2_000);
-    let offers = history.ticks.iter().map(offered).collect();
-    Work::ticks(
-        "16 callbacks, greedy",
-        packed(&start(&encode(&table)).state),
-        offers,
-    )
+    greedy_history("16 callbacks, greedy", random, &table)
+}
+
+/// One chain of sixteen, whose head is the last callback: the longest walk along next.
+fn chain() -> Table {
+    let member = |next: usize| Callback {
+        kind: Kind::Subscription,
+        next,
+        entries: vec![2],
+        period: if next == 15 { 40 } else { 0 },
+        jitter: 0,
+        distance: if next == 15 { 40 } else { 0 },
+    };
+    Table {
+        budget: 1,
+        period: 1,
+        horizon: 0,
+        callbacks: (0..16).map(member).collect(),
+    }
+}
+
+fn chain_history(random: &mut Random) -> Work {
+    greedy_history("one chain of 16, greedy", random, &chain())
+}
+
+/// The same sixteen in a loop: no head, and refused by the reader.
+fn looped() -> Table {
+    let mut table = chain();
+    table.callbacks[0].next = 16;
+    table
 }
 
 /// The same offer over and over: idle ticks, and ticks that are refused.
@@ -210,6 +241,8 @@ fn repeated() -> Vec<Work> {
     let state = packed(&start(&encode(&longest())).state);
     let mut damaged = state.clone();
     damaged[630] = 1;
+    let mut looped_state = packed(&start(&encode(&chain())).state);
+    looped_state[..HEADER_BYTES + RECORD_BYTES * PLACES].copy_from_slice(&encode(&looped()));
     vec![
         Work::ticks("16 callbacks, idle", state.clone(), vec![(0, 1, 1); 1_000]),
         Work::ticks(
@@ -220,6 +253,11 @@ fn repeated() -> Vec<Work> {
         Work::ticks(
             "16 callbacks, refused with 29",
             damaged,
+            vec![(0, 1, 1); 1_000],
+        ),
+        Work::ticks(
+            "one loop of 16, refused with 29",
+            looped_state,
             vec![(0, 1, 1); 1_000],
         ),
     ]
