@@ -1,6 +1,6 @@
 -- The refusals of a table in their order: what each test of the header leads to, and what the links' masks say. Assumes nothing.
 -- fault-edition, fault-none, fault-many, fault-off, fault-spare, fault-supply, fault-horizon, fault-rest: the header, test by test.
--- twice-law, timer-law, wrong-law: the lowest callbacks of 11, 12 and 14, from the masks.
+-- twice-law, timer-law, wrong-law: the lowest callbacks of 11, 12 and 14, from the masks (that of 13 is in LoopLaws). heads-are: the mask of the heads.
 use mathlib.Core.Path.{_≡_, ap, ap₂, _∙_}
 use mathlib.Core.Logic.{_≢_}
 use mathlib.Core.Bool.{Bool, true, false, and-false, _&&_}
@@ -82,9 +82,10 @@ module _ (t : Table) (few : t .count ≤ 16) (s : Names) (names : s ≡ namesOf 
       ∙ first-both (λ i. leb 1 (named t i)) (t .count) few _
       ∙ lowest-same _ _ (t .count) (λ i l. ap (λ (b : Bool). leb 1 (named t i) && b) (gather-in (λ i. eqb (kindOf t i) Numbers.timer) (t .count) i l))
 
+  pub heads-are : (h : ℕ) → h ≡ except (2 ^ (t .count) - 1) (s .once) → h ≡ gather (isHead t) (t .count)
+  heads-are h heads = heads ∙ ap (λ (u : Names). except (2 ^ (t .count) - 1) (u .once)) names ∙ heads-law t
+
   pub wrong-law : (h : ℕ) → h ≡ except (2 ^ (t .count) - 1) (s .once) → (x : ℕ) → x ≡ lowest (λ i. arrivalsFault (has h i) (callbackAt t i)) (t .count)
       → x ≡ lowest (λ i. arrivalsFault (isHead t i) (callbackAt t i)) (t .count)
-  wrong-law h heads x e = e ∙ lowest-same _ _ (t .count) (λ i l. ap (λ (b : Bool). arrivalsFault b (callbackAt t i)) (ap (λ (m : ℕ). has m i) same ∙ gather-in (isHead t) (t .count) i l))
-    where
-      same : h ≡ gather (isHead t) (t .count)
-      same = heads ∙ ap (λ (u : Names). except (2 ^ (t .count) - 1) (u .once)) names ∙ heads-law t
+  wrong-law h heads x e =
+      e ∙ lowest-same _ _ (t .count) (λ i l. ap (λ (b : Bool). arrivalsFault b (callbackAt t i)) (ap (λ (m : ℕ). has m i) (heads-are h heads) ∙ gather-in (isHead t) (t .count) i l))

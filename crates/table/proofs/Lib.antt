@@ -1,5 +1,5 @@
 -- What the functions rest on. NamedLaws: one pass over the records gives the slots named once and twice, and the heads.
--- PriorityLaws: the kinds' masks, and the first in priority. LoopLaws: a walk along next finds a loop or ends. ChainLaws: the way back to a chain's head.
+-- PriorityLaws: the kinds' masks, and the first in priority. LoopLaws: the callbacks on loops are those that no head reaches. ChainLaws: the way back to a chain's head.
 -- RulesLaws: one record's rules, and the records in turn. FaultLaws: the refusals in their order. FormatLaws: the bytes, and the reader.
 -- What other crates cite. Passed: what an accepted table has passed. Sound: what holds of every accepted table. Heads: its chains.
 -- Accepted: what an accepted reading says of the bytes and of the table. WrittenLaws: the bytes of a table's values and the reader are inverse to each other.

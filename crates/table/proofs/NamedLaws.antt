@@ -135,6 +135,9 @@ unfolding gather withBit
 below-all zero = refl
 below-all (suc n) = simp (below-all n, has-above n (2 ^ n - 1) n (omega (arith, pow-pos n)) (omega arith)) (omega (arith, pow-suc 2 n, pow-pos n))
 
+pub below-has : (n i : ℕ) → i < n → has (2 ^ n - 1) i ≡ true
+below-has n i h = ap (λ (m : ℕ). has m i) (sym (below-all n)) ∙ gather-in (λ _. true) n i h
+
 unnamed : (x : ℕ) → not (leb 1 x) ≡ eqb x 0
 unnamed zero = refl
 unnamed (suc x) = simp (le-leb 1 (suc x) (omega arith)) (sym (ne-eqb (suc x) 0 (λ e. omega arith)))
@@ -145,7 +148,7 @@ heads-law t =
     mask-ext n _ _ (omega (arith, pow-pos n)) (gather-lt _ n)
     (λ i h.
     has-except (2 ^ n - 1) _ i
-    ∙ ap₂ (λ (a b : Bool). a && not b) (ap (λ (m : ℕ). has m i) (sym (below-all n)) ∙ gather-in (λ _. true) n i h) (gather-in _ n i h)
+    ∙ ap₂ (λ (a b : Bool). a && not b) (below-has n i h) (gather-in _ n i h)
     ∙ unnamed (named t i)
     ∙ sym (gather-in (isHead t) n i h))
   where

@@ -1,6 +1,6 @@
 -- What an accepted table has passed, test by test. Assumes nothing.
 -- Of faultWith with number 0: passed-edition, passed-some, passed-few, passed-off, passed-spare, passed-supply, passed-horizon, passed-records, passed-links.
--- record-passed, records-passed, links-passed: of one record, of each record, of the links. passed-accepted, passed-whole: it is accepted with index 0, and so it is by its values alone.
+-- record-passed, records-passed, records-known, links-passed: of one record, of each record, of what they name, of the links. passed-accepted, passed-whole: it is accepted with index 0, and so it is by its values alone.
 use mathlib.Core.Path.{_≡_, refl, sym, ap, _∙_, subst}
 use mathlib.Core.Logic.{_⊎_, inl, inr, _≢_}
 use mathlib.Core.Bool.{Bool, true, false, not, cond, _&&_, _||_}
@@ -9,18 +9,18 @@ use native.Mathlib.Nat.{eq-or-lt-of-le}
 use native.Mathlib.Decide.{ℕ-discrete}
 use native.Mathlib.Omega.{arith}
 use lib.Dec.{eqb, ltb, leb}
-use borrow.Author.Tests.{not-false, ltb-false}
+use borrow.Author.Tests.{not-false, ltb-false, le-leb}
 use Rattle.masks.specs.Mask.{has}
 use Rattle.masks.proofs.Slots.{has-zero}
 use Rattle.curves.specs.Least.{lowest}
 use Rattle.curves.proofs.SumLaws.{le-or-lt}
-use Rattle.curves.proofs.EveryLaws.{or-fails}
+use Rattle.curves.proofs.EveryLaws.{or-fails, every-all}
 use Rattle.table.specs.declared.Callback.{Callback}
 use Rattle.table.specs.declared.Refusal.{Refusal}
 use Rattle.table.specs.declared.Table.{Table}
 use Rattle.table.specs.Numbers
-use Rattle.table.specs.Values.{refuse, accepted, orElse, callbackAt, kindOf}
-use Rattle.table.specs.Links.{named, isHead, onLoop}
+use Rattle.table.specs.Values.{refuse, accepted, orElse, callbackAt, kindOf, nextOf}
+use Rattle.table.specs.Links.{named, isHead, onLoop, namesKnown}
 use Rattle.table.specs.Rules.{within, supplyFault, costFault, unusedFault, recordFault, recordsFrom, arrivalsFault, linksFault, faultWith, faultOf}
 use Rattle.table.proofs.RulesLaws.{first-passed, both-passed, lowest-passed, lowest-zero}
 use Rattle.table.proofs.FaultLaws.{fault-edition, fault-none, fault-many, fault-off, fault-spare, fault-supply, fault-horizon, fault-rest}
@@ -87,6 +87,13 @@ module _ (spares : ℕ) (t : Table) where
           pick (inl q) = subst (λ (x : ℕ). fault x ≡ 0) q f
           pick (inr m) = w z m
       go (suc y) f z w = absurd (omega arith)
+
+  -- none of them names a callback beyond n
+  pub records-known : (recordsFrom spares t (t .count) 0) .number ≡ 0 → namesKnown t ≡ true
+  unfolding namesKnown
+  records-known e =
+      every-all (λ i. leb (nextOf t i) (t .count)) (t .count)
+      (λ i l. le-leb _ _ (record-passed (t .count) (callbackAt t i) (has spares i) (records-passed (t .count) 0 e i (omega arith) (omega arith)) .next))
 
   -- records that pass are accepted
   pub records-all : (k i : ℕ) → ((j : ℕ) → i ≤ j → j < i + k → fault j ≡ 0) → recordsFrom spares t k i ≡ accepted

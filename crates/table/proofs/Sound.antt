@@ -13,7 +13,7 @@ use borrow.Author.Tests.{not-false, eq-eqb, ltb-true, ltb-false, leb-true, leb-f
 use Rattle.masks.specs.Mask.{has}
 use Rattle.curves.specs.Cost.{entry}
 use Rattle.curves.specs.Every.{every}
-use Rattle.curves.specs.Least.{least}
+use Rattle.curves.specs.Least.{least, lowest}
 use Rattle.curves.specs.Sum.{sum, given}
 use Rattle.curves.specs.Walk.{walk}
 use Rattle.curves.proofs.SumLaws.{le-or-lt, sum-part}
@@ -137,6 +137,22 @@ module _ (t : Table) where
   unfolding named
   named-pair p q i l h e f = omega (arith, sum-pair (λ p. given (linked t p i) 1) (t .count) p q l h, counts p i e, counts q i f)
 
+  -- where none is named twice, two that name the same are one
+  pub names-once : lowest (λ i. leb 2 (named t i)) (t .count) ≡ 0 → ((i : ℕ) → i < t .count → nextOf t i ≤ t .count)
+      → (p q i : ℕ) → p < t .count → q < t .count → nextOf t p ≡ suc i → nextOf t q ≡ suc i → p ≡ q
+  names-once none names p q i lp lq e f = go (le-or-lt p q)
+    where
+      under-two : named t i < 2
+      under-two = leb-false 2 (named t i) (fails _ (lowest-none (λ i. leb 2 (named t i)) (t .count) none i (omega (arith, names p lp))))
+
+      go : (p ≤ q) ⊎ (q < p) → p ≡ q
+      go (inr l) = absurd (omega (arith, named-pair q p i l lp f e, under-two))
+      go (inl l) = pick (eq-or-lt-of-le l)
+        where
+          pick : (p ≡ q) ⊎ (p < q) → p ≡ q
+          pick (inl s) = s
+          pick (inr s) = absurd (omega (arith, named-pair p q i s lq e f, under-two))
+
   -- a head is named by nobody
   pub head-named : (i : ℕ) → isHead t i ≡ true → named t i ≡ 0
   unfolding isHead
@@ -175,7 +191,7 @@ module _ (t : Table) where
           eqb-true (c .distance) 0 (not-false (eqb (c .distance) 0) (two .1)),
         )
 
-  off-loop : (i : ℕ) → onLoop t i ≡ false → (k : ℕ) → 0 < k → k ≤ t .count → walk (nextOf t) k (suc i) ≢ suc i
+  pub off-loop : (i : ℕ) → onLoop t i ≡ false → (k : ℕ) → 0 < k → k ≤ t .count → walk (nextOf t) k (suc i) ≢ suc i
   unfolding onLoop
   off-loop i ok k some few e =
       let search = least-by (λ k. eqb (walk (nextOf t) k (suc i)) (suc i)) (t .count) 1 k some (omega arith) (T-holds (eqb (walk (nextOf t) k (suc i)) (suc i)) (eq-eqb (walk (nextOf t) k (suc i)) (suc i) e)) in
@@ -202,7 +218,7 @@ sound t ok =
       entries-length = λ i l. used-length (callbackAt t i) (one i l .cost);
       entries-rise = λ i l. used-rise (callbackAt t i) (one i l .cost);
       entries-le = λ i k l. used-le (callbackAt t i) (one i l .cost) k;
-      once = never-twice;
+      once = names-once t (links .once) (λ i l. one i l .next);
       timer-head = λ i l e. is-head t i (unnamed-timer i l e);
       loopless = λ i k l. off-loop t i (fails (onLoop t i) (lowest-none (onLoop t) (t .count) (links .loops) i l)) k;
       head-period = λ i l e. head-passed t i (arrive i l) e .0;
@@ -226,23 +242,6 @@ sound t ok =
 
     arrive : (i : ℕ) → i < t .count → arrivalsFault (isHead t i) (callbackAt t i) ≡ false
     arrive i l = fails _ (lowest-none (λ i. arrivalsFault (isHead t i) (callbackAt t i)) (t .count) (links .arrivals) i l)
-
-    under-two : (i : ℕ) → i < t .count → named t i < 2
-    under-two i l = leb-false 2 (named t i) (fails _ (lowest-none (λ i. leb 2 (named t i)) (t .count) (links .once) i l))
-
-    in-range : (p i : ℕ) → p < t .count → nextOf t p ≡ suc i → i < t .count
-    in-range p i l e = omega (arith, one p l .next)
-
-    never-twice : (p q i : ℕ) → p < t .count → q < t .count → nextOf t p ≡ suc i → nextOf t q ≡ suc i → p ≡ q
-    never-twice p q i lp lq e f = go (le-or-lt p q)
-      where
-        go : (p ≤ q) ⊎ (q < p) → p ≡ q
-        go (inr l) = absurd (omega (arith, named-pair t q p i l lp f e, under-two i (in-range p i lp e)))
-        go (inl l) = pick (eq-or-lt-of-le l)
-          where
-            pick : (p ≡ q) ⊎ (p < q) → p ≡ q
-            pick (inl s) = s
-            pick (inr s) = absurd (omega (arith, named-pair t p q i s lq e f, under-two i (in-range p i lp e)))
 
     unnamed-timer : (i : ℕ) → i < t .count → kindOf t i ≡ timer → named t i < 1
     unnamed-timer i l e = go (leb 1 (named t i)) refl

@@ -7,7 +7,6 @@ use super::Table;
 use super::numbers::LONGEST;
 use super::numbers::LOOP;
 use super::numbers::NAMED_TWICE;
-use super::numbers::PLACES;
 use super::numbers::TIMER_NAMED;
 use super::numbers::WRONG_ARRIVALS;
 use super::priority::first_index;
@@ -16,10 +15,11 @@ use super::refused;
 ghost use mathlib.Core.Path.{_≡_};
 ghost use Prim.Native.Nat.{ℕ, _≤_, _<_, _-_, _^_};
 ghost use Rattle.masks.specs.Mask.{has, gather, except};
+ghost use mathlib.Core.Bool.{true};
 ghost use Rattle.curves.specs.Least.{lowest, lowestFrom};
 ghost use Rattle.table.specs.Numbers.{places};
-ghost use Rattle.table.specs.Values.{callbackAt};
-ghost use Rattle.table.specs.Links.{namesOf, nameOne, isHead, onLoop};
+ghost use Rattle.table.specs.Values.{callbackAt, nextOf};
+ghost use Rattle.table.specs.Links.{namesOf, nameOne, namesKnown, isHead, marks, reachedTo};
 ghost use Rattle.table.specs.Rules.{arrivalsFault, linksFault};
 
 // The names with one more record counted, whose next is given; next counts where it is 1 to n.
@@ -84,46 +84,43 @@ pub fn heads(t: Table) -> u16
     others(t.count, names.once)
 }
 
-// Whether next leads from the slot back to it, in count steps at most; the walk stops where the chain ends.
-fn on_loop(t: Table, slot: u8) -> bool
-    requires { ⌜ slot < places ⌝ }
-    ensures { λ r. ⌜ r ≡ onLoop t slot ⌝ }
+// The mask with the slots that the walk along next from index x meets, in count steps at most.
+fn marked(t: Table, x: u8, mask: u16) -> u16
+    requires { ⌜ (t .count ≤ places) × (x ≤ t .count) × (namesKnown t ≡ true) ⌝ }
+    ensures { λ r. ⌜ r ≡ marks (nextOf t) (t .count) x mask ⌝ }
 {
     let n = t.count;
-    let start = slot + 1;
-    let mut x = start;
+    let mut at = x;
+    let mut met = mask;
     let mut k: u8 = 0;
     while k < n {
-        let c = t.callbacks[(x - 1) as usize];
-        x = c.next;
-        if x == start {
-            return true;
+        if at == 0 {
+            return met;
         }
-        if x == 0 {
-            return false;
-        }
-        if x > PLACES {
-            return false;
-        }
+        let slot = at - 1;
+        met = masks::set_slot(met, slot as u16);
+        let c = t.callbacks[slot as usize];
+        at = c.next;
         k += 1;
     }
-    false
+    met
 }
 
-// The lowest callback that is on a loop, as an index, 0 where none is.
-fn first_looped(t: Table) -> u8
-    requires { ⌜ t .count ≤ places ⌝ }
-    ensures { λ r. ⌜ r ≡ lowest (onLoop t) (t .count) ⌝ }
+// The slots that next leads to from the heads, the heads among them: each record is met once, where none is named twice.
+fn reached(t: Table, heads: u16) -> u16
+    requires { ⌜ (t .count ≤ places) × (namesKnown t ≡ true) ⌝ }
+    ensures { λ r. ⌜ r ≡ reachedTo t heads (t .count) ⌝ }
 {
     let n = t.count;
+    let mut met: u16 = 0;
     let mut i: u8 = 0;
     while i < n {
-        if on_loop(t, i) {
-            return i + 1;
+        if masks::test_slot(heads, i as u16) {
+            met = marked(t, i + 1, met);
         }
         i += 1;
     }
-    0
+    met
 }
 
 // Whether the arrivals of a head, or of a follower, are against the rules.
@@ -174,7 +171,7 @@ fn first_wrong(t: Table, heads: u16) -> u8
 
 // What is wrong with the links, then with the arrivals.
 pub fn links_fault(t: Table) -> Refusal
-    requires { ⌜ t .count ≤ places ⌝ }
+    requires { ⌜ (t .count ≤ places) × (namesKnown t ≡ true) ⌝ }
     ensures { λ r. ⌜ r ≡ linksFault t ⌝ }
 {
     let names = named(t);
@@ -187,11 +184,12 @@ pub fn links_fault(t: Table) -> Refusal
     if timer != 0 {
         return refused(TIMER_NAMED, timer);
     }
-    let looped = first_looped(t);
+    let heads = others(t.count, names.once);
+    let looped = first_index(others(t.count, reached(t, heads)));
     if looped != 0 {
         return refused(LOOP, looped);
     }
-    let wrong = first_wrong(t, others(t.count, names.once));
+    let wrong = first_wrong(t, heads);
     if wrong != 0 {
         return refused(WRONG_ARRIVALS, wrong);
     }

@@ -5,6 +5,7 @@ use Rattle.table.specs.Values.{refuse}
 use Rattle.table.specs.Rules.{linksFault}
 use Rattle.table.proofs.RulesLaws.{lowest-refused, lowest-passed}
 use Rattle.table.proofs.FaultLaws.{twice-law, timer-law, wrong-law}
+use Rattle.table.proofs.LoopLaws.{looped-law}
 use borrow.Author.Needs.{needs}
 use Rattle.table.proofs.links.links_fault.Statement.{statement}
 use Rattle.table.proofs.links.links_fault.Tie as tie
@@ -22,8 +23,9 @@ returns : tie.Need-returns
 unfolding linksFault
 returns c =
     let t : Table = c .before .before .before .before .args .t in
-    let few = c .before .before .before .before .pre in
-    let twice = twice-law t few _ (c .before .before .before .named .ensures) _ (c .before .before .first-index .ensures) in
+    let few = c .before .before .before .before .pre .0 in
+    let names = c .before .before .before .named .ensures in
+    let twice = twice-law t few _ names _ (c .before .before .first-index .ensures) in
     c .refused .ensures ∙ ap (refuse 11) twice ∙ sym (lowest-refused _ _ _ (λ e. c .before .if1 .taken (twice ∙ e)))
 
 kinds-requires : tie.Need-kinds-requires
@@ -39,15 +41,25 @@ returns-2 : tie.Need-returns-2
 unfolding linksFault
 returns-2 c =
     let t : Table = c .before .before .before .before .before .before .before .before .before .args .t in
-    let few = c .before .before .before .before .before .before .before .before .before .pre in
-    let twice = twice-law t few _ (c .before .before .before .before .before .before .before .before .named .ensures) _ (c .before .before .before .before .before .before .before .first-index .ensures) in
-    let timer = timer-law t few _ (c .before .before .before .before .before .before .before .before .named .ensures) _ (c .before .before .before .before .before .kinds .ensures) _ (c .before .before .first-index2 .ensures) in
+    let few = c .before .before .before .before .before .before .before .before .before .pre .0 in
+    let names = c .before .before .before .before .before .before .before .before .named .ensures in
+    let twice = twice-law t few _ names _ (c .before .before .before .before .before .before .before .first-index .ensures) in
+    let timer = timer-law t few _ names _ (c .before .before .before .before .before .kinds .ensures) _ (c .before .before .first-index2 .ensures) in
     c .refused2 .ensures
     ∙ ap (refuse 12) timer
     ∙ sym (lowest-passed _ _ _ (sym twice ∙ c .before .before .before .before .before .before .if1 .left) ∙ lowest-refused _ _ _ (λ e. c .before .if2 .taken (timer ∙ e)))
 
-first-looped-requires : tie.Need-first-looped-requires
-first-looped-requires c κs = search needs
+others-requires : tie.Need-others-requires
+others-requires c κs = search needs
+
+reached-requires : tie.Need-reached-requires
+reached-requires c κs = search needs
+
+others-requires-2 : tie.Need-others-requires-2
+others-requires-2 c κs = search needs
+
+first-index-requires-3 : tie.Need-first-index-requires-3
+first-index-requires-3 c κs = search needs
 
 refused-requires-3 : tie.Need-refused-requires-3
 refused-requires-3 c κs = search needs
@@ -55,20 +67,16 @@ refused-requires-3 c κs = search needs
 returns-3 : tie.Need-returns-3
 unfolding linksFault
 returns-3 c =
-    let t : Table = c .before .before .before .before .before .before .before .before .before .before .before .args .t in
-    let few = c .before .before .before .before .before .before .before .before .before .before .before .pre in
-    let twice = twice-law t few _ (c .before .before .before .before .before .before .before .before .before .before .named .ensures) _ (c .before .before .before .before .before .before .before .before .before .first-index .ensures) in
-    let timer = timer-law t few _ (c .before .before .before .before .before .before .before .before .before .before .named .ensures) _ (c .before .before .before .before .before .before .before .kinds .ensures) _ (c .before .before .before .before .first-index2 .ensures) in
-    let looped = c .before .before .first-looped .ensures in
+    let t : Table = c .before .before .before .before .before .before .before .before .before .before .before .before .before .before .args .t in
+    let few = c .before .before .before .before .before .before .before .before .before .before .before .before .before .before .pre .0 in
+    let names = c .before .before .before .before .before .before .before .before .before .before .before .before .before .named .ensures in
+    let twice = twice-law t few _ names _ (c .before .before .before .before .before .before .before .before .before .before .before .before .first-index .ensures) in
+    let timer = timer-law t few _ names _ (c .before .before .before .before .before .before .before .before .before .before .kinds .ensures) _ (c .before .before .before .before .before .before .before .first-index2 .ensures) in
+    let none = sym twice ∙ c .before .before .before .before .before .before .before .before .before .before .before .if1 .left in
+    let looped = looped-law t few (c .before .before .before .before .before .before .before .before .before .before .before .before .before .before .pre .1) _ names none _ (c .before .before .before .before .before .others .ensures) _ (c .before .before .before .before .reached .ensures) _ (c .before .before .before .others2 .ensures) _ (c .before .before .first-index3 .ensures) in
     c .refused3 .ensures
     ∙ ap (refuse 13) looped
-    ∙ sym
-    (lowest-passed _ _ _ (sym twice ∙ c .before .before .before .before .before .before .before .before .if1 .left)
-    ∙ lowest-passed _ _ _ (sym timer ∙ c .before .before .before .if2 .left)
-    ∙ lowest-refused _ _ _ (λ e. c .before .if3 .taken (looped ∙ e)))
-
-others-requires : tie.Need-others-requires
-others-requires c κs = search needs
+    ∙ sym (lowest-passed _ _ _ none ∙ lowest-passed _ _ _ (sym timer ∙ c .before .before .before .before .before .before .if2 .left) ∙ lowest-refused _ _ _ (λ e. c .before .if3 .taken (looped ∙ e)))
 
 first-wrong-requires : tie.Need-first-wrong-requires
 first-wrong-requires c κs = search needs
@@ -79,18 +87,20 @@ refused-requires-4 c κs = search needs
 returns-4 : tie.Need-returns-4
 unfolding linksFault
 returns-4 c =
-    let t : Table = c .before .before .before .before .before .before .before .before .before .before .before .before .before .before .args .t in
-    let few = c .before .before .before .before .before .before .before .before .before .before .before .before .before .before .pre in
-    let twice = twice-law t few _ (c .before .before .before .before .before .before .before .before .before .before .before .before .before .named .ensures) _ (c .before .before .before .before .before .before .before .before .before .before .before .before .first-index .ensures) in
-    let timer = timer-law t few _ (c .before .before .before .before .before .before .before .before .before .before .before .before .before .named .ensures) _ (c .before .before .before .before .before .before .before .before .before .before .kinds .ensures) _ (c .before .before .before .before .before .before .before .first-index2 .ensures) in
-    let looped = c .before .before .before .before .before .first-looped .ensures in
-    let wrong = wrong-law t few _ (c .before .before .before .before .before .before .before .before .before .before .before .before .before .named .ensures) _ (c .before .before .before .others .ensures) _ (c .before .before .first-wrong .ensures) in
+    let t : Table = c .before .before .before .before .before .before .before .before .before .before .before .before .before .before .before .before .args .t in
+    let few = c .before .before .before .before .before .before .before .before .before .before .before .before .before .before .before .before .pre .0 in
+    let names = c .before .before .before .before .before .before .before .before .before .before .before .before .before .before .before .named .ensures in
+    let twice = twice-law t few _ names _ (c .before .before .before .before .before .before .before .before .before .before .before .before .before .before .first-index .ensures) in
+    let timer = timer-law t few _ names _ (c .before .before .before .before .before .before .before .before .before .before .before .before .kinds .ensures) _ (c .before .before .before .before .before .before .before .before .before .first-index2 .ensures) in
+    let none = sym twice ∙ c .before .before .before .before .before .before .before .before .before .before .before .before .before .if1 .left in
+    let looped = looped-law t few (c .before .before .before .before .before .before .before .before .before .before .before .before .before .before .before .before .pre .1) _ names none _ (c .before .before .before .before .before .before .before .others .ensures) _ (c .before .before .before .before .before .before .reached .ensures) _ (c .before .before .before .before .before .others2 .ensures) _ (c .before .before .before .before .first-index3 .ensures) in
+    let wrong = wrong-law t few _ names _ (c .before .before .before .before .before .before .before .others .ensures) _ (c .before .before .first-wrong .ensures) in
     c .refused4 .ensures
     ∙ ap (refuse 14) wrong
     ∙ sym
-    (lowest-passed _ _ _ (sym twice ∙ c .before .before .before .before .before .before .before .before .before .before .before .if1 .left)
-    ∙ lowest-passed _ _ _ (sym timer ∙ c .before .before .before .before .before .before .if2 .left)
-    ∙ lowest-passed _ _ _ (sym looped ∙ c .before .before .before .before .if3 .left)
+    (lowest-passed _ _ _ none
+    ∙ lowest-passed _ _ _ (sym timer ∙ c .before .before .before .before .before .before .before .before .if2 .left)
+    ∙ lowest-passed _ _ _ (sym looped ∙ c .before .before .before .if3 .left)
     ∙ lowest-refused _ _ _ (λ e. c .before .if4 .taken (wrong ∙ e)))
 
 refused-requires-5 : tie.Need-refused-requires-5
@@ -99,17 +109,19 @@ refused-requires-5 c κs = search needs
 returns-5 : tie.Need-returns-5
 unfolding linksFault
 returns-5 c =
-    let t : Table = c .before .before .before .before .before .before .before .before .before .before .before .before .before .before .args .t in
-    let few = c .before .before .before .before .before .before .before .before .before .before .before .before .before .before .pre in
-    let twice = twice-law t few _ (c .before .before .before .before .before .before .before .before .before .before .before .before .before .named .ensures) _ (c .before .before .before .before .before .before .before .before .before .before .before .before .first-index .ensures) in
-    let timer = timer-law t few _ (c .before .before .before .before .before .before .before .before .before .before .before .before .before .named .ensures) _ (c .before .before .before .before .before .before .before .before .before .before .kinds .ensures) _ (c .before .before .before .before .before .before .before .first-index2 .ensures) in
-    let looped = c .before .before .before .before .before .first-looped .ensures in
-    let wrong = wrong-law t few _ (c .before .before .before .before .before .before .before .before .before .before .before .before .before .named .ensures) _ (c .before .before .before .others .ensures) _ (c .before .before .first-wrong .ensures) in
+    let t : Table = c .before .before .before .before .before .before .before .before .before .before .before .before .before .before .before .before .args .t in
+    let few = c .before .before .before .before .before .before .before .before .before .before .before .before .before .before .before .before .pre .0 in
+    let names = c .before .before .before .before .before .before .before .before .before .before .before .before .before .before .before .named .ensures in
+    let twice = twice-law t few _ names _ (c .before .before .before .before .before .before .before .before .before .before .before .before .before .before .first-index .ensures) in
+    let timer = timer-law t few _ names _ (c .before .before .before .before .before .before .before .before .before .before .before .before .kinds .ensures) _ (c .before .before .before .before .before .before .before .before .before .first-index2 .ensures) in
+    let none = sym twice ∙ c .before .before .before .before .before .before .before .before .before .before .before .before .before .if1 .left in
+    let looped = looped-law t few (c .before .before .before .before .before .before .before .before .before .before .before .before .before .before .before .before .pre .1) _ names none _ (c .before .before .before .before .before .before .before .others .ensures) _ (c .before .before .before .before .before .before .reached .ensures) _ (c .before .before .before .before .before .others2 .ensures) _ (c .before .before .before .before .first-index3 .ensures) in
+    let wrong = wrong-law t few _ names _ (c .before .before .before .before .before .before .before .others .ensures) _ (c .before .before .first-wrong .ensures) in
     c .refused5 .ensures
     ∙ sym
-    (lowest-passed _ _ _ (sym twice ∙ c .before .before .before .before .before .before .before .before .before .before .before .if1 .left)
-    ∙ lowest-passed _ _ _ (sym timer ∙ c .before .before .before .before .before .before .if2 .left)
-    ∙ lowest-passed _ _ _ (sym looped ∙ c .before .before .before .before .if3 .left)
+    (lowest-passed _ _ _ none
+    ∙ lowest-passed _ _ _ (sym timer ∙ c .before .before .before .before .before .before .before .before .if2 .left)
+    ∙ lowest-passed _ _ _ (sym looped ∙ c .before .before .before .if3 .left)
     ∙ lowest-passed _ _ _ (sym wrong ∙ c .before .if4 .left))
 
 pub links-fault-spec : {M : Type 1} → statement M
@@ -124,10 +136,12 @@ links-fault-spec =
     first-index-requires-2
     refused-requires-2
     returns-2
-    first-looped-requires
+    others-requires
+    reached-requires
+    others-requires-2
+    first-index-requires-3
     refused-requires-3
     returns-3
-    others-requires
     first-wrong-requires
     refused-requires-4
     returns-4

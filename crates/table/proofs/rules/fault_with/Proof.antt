@@ -2,6 +2,7 @@
 use mathlib.Core.Path.{sym, ap, _∙_}
 use Rattle.table.specs.declared.Refusal.{Refusal}
 use Rattle.table.proofs.RulesLaws.{first-refused, first-passed}
+use Rattle.table.proofs.Passed.{records-known}
 use Rattle.table.proofs.FaultLaws.{fault-edition, fault-none, fault-many, fault-off, fault-spare, fault-supply, fault-horizon, fault-rest}
 use borrow.Author.Needs.{needs}
 use Rattle.table.proofs.rules.fault_with.Statement.{statement}
@@ -79,7 +80,10 @@ returns-8 c =
     ∙ first-refused _ _ (λ e. c .if8 .taken (ap (λ (x : Refusal). x .number) r ∙ e)))
 
 links-fault-requires : tie.Need-links-fault-requires
-links-fault-requires c κs = search needs
+links-fault-requires c κs =
+    let a = c .before .before .before .before .before .before .before .before .before .before .before .before .before .before .before .args in
+    let few = c .before .before .before .before .before .before .before .before .before .if3 .left in
+    (few, records-known (a .spares) (a .t) (ap (λ (x : Refusal). x .number) (sym (c .before .before .records-fault .ensures)) ∙ c .if8 .left))
 
 returns-9 : tie.Need-returns-9
 returns-9 c =
