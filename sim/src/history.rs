@@ -1,19 +1,17 @@
-//! A history: its words, read from the ticks and their replies alone, the
-//! test that it is within the curves, and the conclusions of demand 3.
+//! The words of a history, read from its ticks and their answers.
 
 use crate::machine::{bit, start, Answer, Reply, Tick};
 use crate::sheet::{arrivals, cost, supply};
 use crate::table::{Table, LARGEST, MOST_CALLBACKS};
 
-/// "A history is a list of ticks", here with its replies.
+/// "A history is a list of ticks, each with its mask, supply and cost.", with the answers.
 #[derive(Clone, Debug, Default, PartialEq, Eq)]
 pub struct History {
     pub ticks: Vec<Tick>,
     pub replies: Vec<Reply>,
 }
 
-/// "Tick 0 gets the fresh state, each later tick the state that the one
-/// before it handed back".
+/// "Tick 0 gets the fresh state, each later tick the state that the one before it handed back"
 pub fn play(bytes: &[u8], ticks: &[Tick]) -> History {
     let mut state = start(bytes).state;
     let mut replies = Vec::new();
@@ -28,7 +26,7 @@ pub fn play(bytes: &[u8], ticks: &[Tick]) -> History {
     }
 }
 
-/// The callback and instance that a reply names.
+/// The callback and instance that an answer names.
 fn named(reply: &Reply) -> Option<(usize, u64)> {
     match reply.outcome {
         Ok(Answer::Ran { callback, instance }) => Some((callback, instance)),
@@ -37,8 +35,8 @@ fn named(reply: &Reply) -> Option<(usize, u64)> {
     }
 }
 
-/// The callback that a reply says finished.
-fn finisher(reply: &Reply) -> Option<usize> {
+/// The callback that a tick answers it finished.
+fn finished(reply: &Reply) -> Option<usize> {
     match reply.outcome {
         Ok(Answer::Finished { callback, .. }) => Some(callback),
         _ => None,
@@ -46,58 +44,58 @@ fn finisher(reply: &Reply) -> Option<usize> {
 }
 
 impl History {
-    /// Times in order. "A head is activated at time t by its bit in the mask
-    /// of tick t. A follower is activated at time t + 1 when tick t answers
-    /// that a callback naming it as next finished."
+    /// "A head is activated at time t by its bit in the mask of tick t. A follower is activated at
+    /// time t + 1 when tick t answers that a callback naming it as next finished. Activations of a
+    /// callback are counted from 1 in order of time."
     pub fn activations(&self, table: &Table, index: usize) -> Vec<u64> {
-        if table.is_head(index) {
-            return self.times(|t| self.ticks[t].mask & bit(index) != 0);
+        if index == 0 || index > table.count() {
+            return Vec::new();
         }
-        let names = |callback: usize| table.callback(callback).next == index;
-        let ends = self.times(|t| finisher(&self.replies[t]).is_some_and(names));
-        ends.into_iter().map(|t| t + 1).collect()
+        if table.is_head(index) {
+            let ticks = self.ticks.iter().zip(0..);
+            let set = ticks.filter(|(tick, _)| tick.mask & bit(index) != 0);
+            return set.map(|(_, time)| time).collect();
+        }
+        let names_it =
+            |i: usize| (1..=table.count()).contains(&i) && table.callback(i).next == index;
+        let replies = self.replies.iter().zip(1..);
+        let activating = replies.filter(|(reply, _)| finished(reply).is_some_and(names_it));
+        activating.map(|(_, time)| time).collect()
     }
 
-    /// Time and instance of each start. "Instance k of callback i starts at
-    /// time t if tick t says that one started and names callback i, instance
-    /// k."
+    /// "Instance k of callback i starts at time t if tick t says that one started and names callback
+    /// i, instance k."
     pub fn starts(&self, index: usize) -> Vec<(u64, u64)> {
-        let mut found = Vec::new();
-        for (time, reply) in self.replies.iter().enumerate() {
+        let mut starts = Vec::new();
+        for (reply, time) in self.replies.iter().zip(0..) {
             match named(reply) {
                 Some((callback, instance)) if reply.started && callback == index => {
-                    found.push((time as u64, instance));
+                    starts.push((time, instance));
                 }
                 _ => {}
             }
         }
-        found
+        starts
     }
 
     /// "Its cost is the one offered in that tick."
     pub fn costs(&self, index: usize) -> Vec<u64> {
-        self.starts(index)
-            .iter()
-            .map(|&(time, _)| self.ticks[time as usize].cost)
-            .collect()
+        let starts = self.starts(index).into_iter();
+        let ticks = starts.filter_map(|(time, _)| self.ticks.get(time as usize));
+        ticks.map(|tick| tick.cost).collect()
     }
 
-    /// "The k-th completion of i is at time t + 1, tick t being the k-th that
-    /// answers finished callback i."
+    /// "The k-th completion of i is at time t + 1, tick t being the k-th that answers finished
+    /// callback i."
     pub fn completions(&self, index: usize) -> Vec<u64> {
-        let ends = self.times(|t| finisher(&self.replies[t]) == Some(index));
-        ends.into_iter().map(|t| t + 1).collect()
-    }
-
-    fn times(&self, wanted: impl Fn(usize) -> bool) -> Vec<u64> {
-        (0..self.ticks.len())
-            .filter(|&t| wanted(t))
-            .map(|t| t as u64)
-            .collect()
+        let replies = self.replies.iter().zip(1..);
+        let finishing = replies.filter(|(reply, _)| finished(reply) == Some(index));
+        finishing.map(|(_, time)| time).collect()
     }
 }
 
-/// How a history leaves the curves.
+/// How a history leaves the curves. `from` is the first tick of the window, for `Cost` the place
+/// from 0 of the first instance.
 #[derive(Clone, Copy, Debug, PartialEq, Eq)]
 pub enum Departure {
     Arrivals {
@@ -122,45 +120,45 @@ pub enum Departure {
     },
 }
 
-/// "A history is within the curves if each window of D ticks holds at most
-/// a(D) activations of each head and at least s(D) supplied ticks; any n
-/// consecutive started instances of a callback cost at most E(n) together;
-/// only heads are in the masks; and every offered cost is in 1 to 60,000."
+/// "A history is within the curves if each window of D ticks holds at most a(D) activations of each
+/// head and at least s(D) supplied ticks; any n consecutive started instances of a callback cost at
+/// most E(n) together; only heads are in the masks; and every offered cost is in 1 to 60,000."
 pub fn within_curves(table: &Table, history: &History) -> Result<(), Departure> {
-    for (tick, offered) in history.ticks.iter().enumerate() {
-        let stray = |i: usize| offered.mask & bit(i) != 0 && !table.is_head(i);
-        if (1..=MOST_CALLBACKS).any(stray) {
-            return Err(Departure::Mask { tick });
-        }
-        if !(1..=LARGEST).contains(&offered.cost) {
-            return Err(Departure::CostRange { tick });
-        }
+    check_ticks(table, history)?;
+    for head in (1..=table.count()).filter(|&i| table.is_head(i)) {
+        check_arrivals(table, history, head)?;
     }
-    within_arrivals(table, history)?;
-    within_supply(table, history)?;
-    within_costs(table, history)
+    check_supply(table, history)?;
+    for callback in 1..=table.count() {
+        check_costs(table, history, callback)?;
+    }
+    Ok(())
 }
 
-/// Sums of the first 0, 1, 2 and so on values.
-fn prefix_sums(values: impl Iterator<Item = u64>) -> Vec<u64> {
+/// "only heads are in the masks; and every offered cost is in 1 to 60,000"
+fn check_ticks(table: &Table, history: &History) -> Result<(), Departure> {
+    for (place, tick) in history.ticks.iter().enumerate() {
+        let stranger = |i: usize| tick.mask & bit(i) != 0 && !table.is_head(i);
+        if (1..=MOST_CALLBACKS).any(stranger) {
+            return Err(Departure::Mask { tick: place });
+        }
+        if !(1..=LARGEST).contains(&tick.cost) {
+            return Err(Departure::CostRange { tick: place });
+        }
+    }
+    Ok(())
+}
+
+/// "A window of D ticks is any D consecutive ticks of the list." The window (from, length) that
+/// ends first, and of those the one that begins first, whose values together are wrong.
+fn first_window(values: &[u64], wrong: impl Fn(usize, u64) -> bool) -> Option<(usize, usize)> {
     let mut sums = vec![0];
-    for value in values {
-        sums.push(sums[sums.len() - 1] + value);
+    for (place, value) in values.iter().enumerate() {
+        sums.push(sums[place] + value);
     }
-    sums
-}
-
-/// The first run of consecutive values, by start and length, whose sum the
-/// curve does not allow.
-fn offending_run(
-    sums: &[u64],
-    curve: impl Fn(u64) -> u64,
-    allowed: impl Fn(u64, u64) -> bool,
-) -> Option<(usize, usize)> {
-    let limits: Vec<u64> = (0..sums.len() as u64).map(curve).collect();
     for end in 1..sums.len() {
         for from in 0..end {
-            if !allowed(sums[end] - sums[from], limits[end - from]) {
+            if wrong(end - from, sums[end] - sums[from]) {
                 return Some((from, end - from));
             }
         }
@@ -169,49 +167,51 @@ fn offending_run(
 }
 
 /// "each window of D ticks holds at most a(D) activations of each head"
-fn within_arrivals(table: &Table, history: &History) -> Result<(), Departure> {
-    for head in (1..=table.count()).filter(|&i| table.is_head(i)) {
-        let bits = history
-            .ticks
-            .iter()
-            .map(|tick| u64::from(tick.mask & bit(head) != 0));
-        let curve = |length| arrivals(table.callback(head), length);
-        let run = offending_run(&prefix_sums(bits), curve, |count, most| count <= most);
-        if let Some((from, length)) = run {
-            return Err(Departure::Arrivals { head, from, length });
-        }
+fn check_arrivals(table: &Table, history: &History, head: usize) -> Result<(), Departure> {
+    let ticks = history.ticks.iter();
+    let values: Vec<u64> = ticks
+        .map(|tick| u64::from(tick.mask & bit(head) != 0))
+        .collect();
+    let most: Vec<u64> = (0..=values.len() as u64)
+        .map(|d| arrivals(table.callback(head), d))
+        .collect();
+    match first_window(&values, |d, held| held > most[d]) {
+        Some((from, length)) => Err(Departure::Arrivals { head, from, length }),
+        None => Ok(()),
     }
-    Ok(())
 }
 
-/// "each window of D ticks holds [...] at least s(D) supplied ticks"
-fn within_supply(table: &Table, history: &History) -> Result<(), Departure> {
-    let supplied = history.ticks.iter().map(|tick| u64::from(tick.supplied));
-    let curve = |length| supply(table.budget, table.period, length);
-    match offending_run(&prefix_sums(supplied), curve, |count, least| count >= least) {
+/// "and at least s(D) supplied ticks"
+fn check_supply(table: &Table, history: &History) -> Result<(), Departure> {
+    let ticks = history.ticks.iter();
+    let values: Vec<u64> = ticks.map(|tick| u64::from(tick.supplied)).collect();
+    let least: Vec<u64> = (0..=values.len() as u64)
+        .map(|d| supply(table.budget, table.period, d))
+        .collect();
+    match first_window(&values, |d, held| held < least[d]) {
         Some((from, length)) => Err(Departure::Supply { from, length }),
         None => Ok(()),
     }
 }
 
-/// "any n consecutive started instances of a callback cost at most E(n)
-/// together"
-fn within_costs(table: &Table, history: &History) -> Result<(), Departure> {
-    for callback in 1..=table.count() {
-        let sums = prefix_sums(history.costs(callback).into_iter());
-        let curve = |instances| cost(&table.callback(callback).entries, instances);
-        if let Some((from, instances)) = offending_run(&sums, curve, |sum, most| sum <= most) {
-            return Err(Departure::Cost {
-                callback,
-                from,
-                instances,
-            });
-        }
+/// "any n consecutive started instances of a callback cost at most E(n) together"
+fn check_costs(table: &Table, history: &History, callback: usize) -> Result<(), Departure> {
+    let values = history.costs(callback);
+    let entries = &table.callback(callback).entries;
+    let most: Vec<u64> = (0..=values.len() as u64)
+        .map(|n| cost(entries, n))
+        .collect();
+    match first_window(&values, |n, together| together > most[n]) {
+        Some((from, instances)) => Err(Departure::Cost {
+            callback,
+            from,
+            instances,
+        }),
+        None => Ok(()),
     }
-    Ok(())
 }
 
-/// How a run breaks demand 3.
+/// How a history breaks the conclusions of demand 3; `k` counts from 1.
 #[derive(Clone, Copy, Debug, PartialEq, Eq)]
 pub enum Violation {
     Refused {
@@ -222,7 +222,6 @@ pub enum Violation {
         instance: u64,
         time: u64,
     },
-    /// The k-th completion is later than the bound or not there.
     Late {
         callback: usize,
         k: usize,
@@ -231,29 +230,26 @@ pub enum Violation {
     },
 }
 
-/// The three conclusions of demand 3 on a history within the curves.
+/// Demand 3's conclusions: no tick is refused; then, callback by callback, no instance starts
+/// before its activation, and every k-th completion is in time. (`bounds` has n places)
 pub fn conclusions(table: &Table, bounds: &[u64], history: &History) -> Result<(), Violation> {
-    if let Some(tick) = history
-        .replies
-        .iter()
-        .position(|reply| reply.outcome.is_err())
-    {
+    let refused = history.replies.iter().position(|r| r.outcome.is_err());
+    if let Some(tick) = refused {
         return Err(Violation::Refused { tick });
     }
     for callback in 1..=table.count() {
-        starts_activated(table, callback, history)?;
-        completes_in_time(table, callback, bounds[callback - 1], history)?;
+        check_starts(table, callback, history)?;
+        check_completions(table, callback, bounds[callback - 1], history)?;
     }
     Ok(())
 }
 
-/// "It starts before its activation if i has fewer than k activations at
-/// times up to t."
-fn starts_activated(table: &Table, callback: usize, history: &History) -> Result<(), Violation> {
+/// "It starts before its activation if i has fewer than k activations at times up to t."
+fn check_starts(table: &Table, callback: usize, history: &History) -> Result<(), Violation> {
     let activations = history.activations(table, callback);
     for (time, instance) in history.starts(callback) {
-        let by_then = activations.iter().filter(|&&at| at <= time).count() as u64;
-        if by_then < instance {
+        let so_far = activations.partition_point(|&a| a <= time) as u64;
+        if so_far < instance {
             return Err(Violation::EarlyStart {
                 callback,
                 instance,
@@ -264,21 +260,22 @@ fn starts_activated(table: &Table, callback: usize, history: &History) -> Result
     Ok(())
 }
 
-/// "with a bound R, and the k-th activation of the head at time v, wherever v
-/// + R is at most N the k-th completion is there, at time v + R or earlier"
-fn completes_in_time(
+/// "A history of N ticks runs as far as time N. So with a bound R, and the k-th activation of the
+/// head at time v, wherever v + R is at most N the k-th completion is there, at time v + R or
+/// earlier."
+fn check_completions(
     table: &Table,
     callback: usize,
     bound: u64,
     history: &History,
 ) -> Result<(), Violation> {
+    let end = history.ticks.len() as u64;
     let completions = history.completions(callback);
-    let heads = history.activations(table, table.head_of(callback));
-    for (place, &activation) in heads.iter().enumerate() {
-        let due = activation + bound;
+    let activations = history.activations(table, table.head_of(callback));
+    for (place, activation) in activations.into_iter().enumerate() {
+        let due = activation.saturating_add(bound);
         let completion = completions.get(place).copied();
-        let in_time = completion.is_some_and(|time| time <= due);
-        if due <= history.ticks.len() as u64 && !in_time {
+        if due <= end && completion.is_none_or(|time| time > due) {
             return Err(Violation::Late {
                 callback,
                 k: place + 1,
@@ -290,13 +287,14 @@ fn completes_in_time(
     Ok(())
 }
 
-/// The longest time from a k-th activation of the head to the k-th completion
-/// of the callback, 0 where none completes.
+/// The longest time from a k-th activation of the chain's head to the k-th completion of the
+/// callback, 0 where none completes.
 pub fn longest_response(table: &Table, callback: usize, history: &History) -> u64 {
-    let heads = history.activations(table, table.head_of(callback));
-    let pairs = history.completions(callback).into_iter().zip(heads);
+    let activations = history.activations(table, table.head_of(callback));
+    let completions = history.completions(callback);
+    let pairs = activations.into_iter().zip(completions);
     pairs
-        .map(|(completion, activation)| completion - activation)
+        .map(|(activation, completion)| completion.saturating_sub(activation))
         .max()
         .unwrap_or(0)
 }

@@ -1,5 +1,6 @@
-//! The cue executor and its timing sheet, written from the scope document
-//! alone. Quoted sentences in the comments are that document's.
+//! The cue executor and its timing sheet. `table`, `sheet`, `machine` and
+//! `history` are written from document 01 alone; quoted sentences in the
+//! comments are that document's.
 
 pub mod check;
 pub mod frames;

@@ -1,34 +1,26 @@
-//! One tick of the machine, with refusals 18 to 21 and 29.
+//! The machine: one tick at a time (refusals 18 to 21 and 29).
 
-use crate::table::{read, Kind, Refusal, Table, LARGEST, MOST_CALLBACKS};
+use crate::table::{read, refusal, Kind, Refusal, Table, LARGEST, MOST_CALLBACKS};
 
-/// "1,000,000,000 ticks or more taken already"
 pub const MOST_TICKS: u64 = 1_000_000_000;
-/// "a waiting count is above 255"
 pub const MOST_WAITING: u64 = 255;
 
-/// The state as plain values. Any content can be written into it; a tick
-/// tests it first.
+/// "The machine takes its state and hands the next state back." Anyone may write anything here.
 #[derive(Clone, Debug, PartialEq, Eq)]
 pub struct State {
     /// The bytes of the table.
     pub table: Vec<u8>,
-    /// Place i - 1 for callback i; a running instance counts as waiting.
-    pub waiting: [u64; MOST_CALLBACKS],
-    pub finished: [u64; MOST_CALLBACKS],
-    /// Bit i - 1 for callback i.
+    pub waiting: [u64; 16],
+    pub finished: [u64; 16],
     pub cache: u16,
-    /// The running callback, 0 where nothing runs.
+    /// The index of the running callback, 0 where nothing runs.
     pub running: usize,
-    /// What the running instance still has to run.
     pub units: u64,
-    /// Ticks taken.
     pub ticks: u64,
 }
 
-/// "A tick takes an arrival mask of sixteen bits (bit i - 1 for callback i),
-/// whether the tick is supplied, and the cost of an instance that starts in
-/// it (otherwise unused)."
+/// "A tick takes an arrival mask of sixteen bits (bit i - 1 for callback i), whether the tick is
+/// supplied, and the cost of an instance that starts in it (otherwise unused)."
 #[derive(Clone, Copy, Debug, PartialEq, Eq)]
 pub struct Tick {
     pub mask: u16,
@@ -36,7 +28,8 @@ pub struct Tick {
     pub cost: u64,
 }
 
-/// "The tick answers with one of four"
+/// "The tick answers with one of four: no supply; idle; ran callback i, instance k; finished
+/// callback i, instance k."
 #[derive(Clone, Copy, Debug, PartialEq, Eq)]
 pub enum Answer {
     NoSupply,
@@ -45,8 +38,8 @@ pub enum Answer {
     Finished { callback: usize, instance: u64 },
 }
 
-/// "Beside it stand whether one started, whether a polling point fell here,
-/// and how many callbacks the poll put in the cache (0 without one)."
+/// "Beside it stand whether one started, whether a polling point fell here, and how many callbacks
+/// the poll put in the cache (0 without one)."
 #[derive(Clone, Copy, Debug, PartialEq, Eq)]
 pub struct Reply {
     pub outcome: Result<Answer, Refusal>,
@@ -69,20 +62,20 @@ pub struct Start {
     pub refusal: Option<Refusal>,
 }
 
-/// "A fresh state holds that table, with no ticks taken, nothing waiting,
-/// running or cached, and no instance finished. A refused start gives a state
-/// that is zero throughout and has no callbacks".
+/// "A machine is started from a table's bytes and refuses them as the reader does, with 1 to 14. A
+/// fresh state holds that table, with no ticks taken, nothing waiting, running or cached, and no
+/// instance finished. A refused start gives a state that is zero throughout and has no callbacks"
+/// Total.
 pub fn start(bytes: &[u8]) -> Start {
     let refusal = read(bytes).err();
-    let table = if refusal.is_none() {
-        bytes.to_vec()
-    } else {
-        Vec::new()
+    let table = match refusal {
+        None => bytes.to_vec(),
+        Some(_) => Vec::new(),
     };
     let state = State {
         table,
-        waiting: [0; MOST_CALLBACKS],
-        finished: [0; MOST_CALLBACKS],
+        waiting: [0; 16],
+        finished: [0; 16],
         cache: 0,
         running: 0,
         units: 0,
@@ -91,159 +84,202 @@ pub fn start(bytes: &[u8]) -> Start {
     Start { state, refusal }
 }
 
-/// "bit i - 1 for callback i"
+/// "bit i - 1 for callback i" (no bit for an index that is not 1 to 16)
 pub fn bit(index: usize) -> u16 {
-    1 << (index - 1)
+    if (1..=MOST_CALLBACKS).contains(&index) {
+        1 << (index - 1)
+    } else {
+        0
+    }
+}
+
+/// The callbacks of one kind as a mask.
+fn kind_mask(table: &Table, kind: Kind) -> u16 {
+    let of_kind = (1..=table.count()).filter(|&i| table.callback(i).kind == kind);
+    of_kind.fold(0, |mask, i| mask | bit(i))
+}
+
+/// "Priority goes by kind number, then by index; the smaller goes first." 0 where there is none.
+fn first(table: &Table, mask: u16) -> usize {
+    for kind in [Kind::Timer, Kind::Subscription, Kind::Service, Kind::Client] {
+        let of_kind = mask & kind_mask(table, kind);
+        if of_kind != 0 {
+            return of_kind.trailing_zeros() as usize + 1;
+        }
+    }
+    0
 }
 
 impl State {
+    /// The instances of callback `index` that wait (0 for an index that is not 1 to 16).
     pub fn waiting(&self, index: usize) -> u64 {
-        self.waiting[index - 1]
+        let place = index.wrapping_sub(1);
+        self.waiting.get(place).copied().unwrap_or(0)
     }
 
+    /// The instances of callback `index` that finished (0 for an index that is not 1 to 16).
     pub fn finished(&self, index: usize) -> u64 {
-        self.finished[index - 1]
+        let place = index.wrapping_sub(1);
+        self.finished.get(place).copied().unwrap_or(0)
     }
 
+    /// Whether callback `index` is in the cache.
     pub fn cached(&self, index: usize) -> bool {
-        index <= MOST_CALLBACKS && self.cache & bit(index) != 0
+        self.cache & bit(index) != 0
     }
 
-    /// "The machine takes its state and hands the next state back."
+    /// "A refused tick gives none of the four, and beside it no, no and 0." "Row and state stay
+    /// untouched". Total.
     pub fn tick(self, tick: Tick) -> Step {
-        match self.accepted(&tick) {
-            Ok(step) => step,
-            Err(refusal) => refused(self, refusal),
-        }
-    }
-
-    /// The refusals from 29 down to 21, then the tick itself.
-    fn accepted(&self, tick: &Tick) -> Result<Step, Refusal> {
-        let whole = |number| Refusal { number, index: 0 };
-        let table = read(&self.table).map_err(|_| whole(29))?;
-        if self.faulty(&table) {
-            return Err(whole(29));
-        }
-        if self.ticks >= MOST_TICKS {
-            return Err(whole(18));
-        }
-        if !(1..=LARGEST).contains(&tick.cost) {
-            return Err(whole(19));
-        }
-        let stray = (1..=MOST_CALLBACKS).find(|&i| tick.mask & bit(i) != 0 && !table.is_head(i));
-        if let Some(index) = stray {
-            return Err(Refusal {
-                number: 20,
-                index: index as u8,
-            });
-        }
-        let step = self.advance(&table, tick);
-        match self.overfull(&table, tick, &step.reply) {
-            Some(index) => Err(Refusal {
-                number: 21,
-                index: index as u8,
-            }),
-            None => Ok(step),
-        }
-    }
-
-    /// The faults of refusal 29, in the order of the page.
-    fn faulty(&self, table: &Table) -> bool {
-        let count = table.count();
-        let all = 1..=MOST_CALLBACKS;
-        let beyond = |i: usize| {
-            self.running == i || self.cached(i) || self.waiting(i) != 0 || self.finished(i) != 0
-        };
-        let runs = self.running != 0;
-        let units_right = if runs {
-            (1..=LARGEST).contains(&self.units)
-        } else {
-            self.units == 0
-        };
-        self.running > MOST_CALLBACKS
-            || all.clone().any(|i| i > count && beyond(i))
-            || all.clone().any(|i| self.waiting(i) > MOST_WAITING)
-            || all.clone().any(|i| self.finished(i) > self.ticks)
-            || all
-                .clone()
-                .any(|i| (self.cached(i) || self.running == i) && self.waiting(i) == 0)
-            || all.clone().any(|i| self.cached(i) && is_timer(table, i))
-            || (runs && !is_timer(table, self.running) && !self.cached(self.running))
-            || !units_right
-    }
-
-    /// "a head in the mask has 255 waiting before the tick, or a next that
-    /// this tick would activate has 255 (lowest such)"
-    fn overfull(&self, table: &Table, tick: &Tick, reply: &Reply) -> Option<usize> {
-        let activated = match reply.outcome {
-            Ok(Answer::Finished { callback, .. }) => table.callback(callback).next,
-            _ => 0,
-        };
-        (1..=table.count()).find(|&i| {
-            (tick.mask & bit(i) != 0 || activated == i) && self.waiting(i) == MOST_WAITING
+        let stepped = self.checked(tick).and_then(|table| {
+            let step = self.clone().advance(&table, tick);
+            self.check_room(&table, tick, step.reply)?;
+            Ok(step)
+        });
+        stepped.unwrap_or_else(|refusal| Step {
+            state: self,
+            reply: Reply {
+                outcome: Err(refusal),
+                started: false,
+                polled: false,
+                gathered: 0,
+            },
         })
     }
 
-    /// The four numbered steps of a tick that is not refused before them.
-    fn advance(&self, table: &Table, tick: &Tick) -> Step {
-        let mut state = self.clone();
-        state.ticks += 1;
-        state.arrive(table, tick.mask);
-        let mut reply = plain(Ok(Answer::NoSupply));
-        if !tick.supplied {
-            return Step { state, reply };
+    /// Refusals 29, 18, 19 and 20 in the order of the table of refusals; the table read, if none.
+    fn checked(&self, tick: Tick) -> Result<Table, Refusal> {
+        let table = read(&self.table).map_err(|_| refusal(29, 0))?;
+        if self.has_fault(&table) {
+            return Err(refusal(29, 0));
         }
-        if state.running == 0 {
-            state.choose(table, tick.cost, &mut reply);
+        if self.ticks >= MOST_TICKS {
+            return Err(refusal(18, 0));
         }
-        reply.outcome = Ok(state.run(table));
-        Step { state, reply }
+        if !(1..=LARGEST).contains(&tick.cost) {
+            return Err(refusal(19, 0));
+        }
+        check_mask(&table, tick.mask)?;
+        Ok(table)
+    }
+
+    /// "the state handed in has any of these faults" (the first, about the table, apart)
+    fn has_fault(&self, table: &Table) -> bool {
+        self.beyond_fault(table)
+            || self.count_fault(table)
+            || self.cache_fault(table)
+            || self.running_fault(table)
+    }
+
+    /// "a callback beyond n runs, is cached or has a waiting or finished count not 0"
+    fn beyond_fault(&self, table: &Table) -> bool {
+        let beyond = table.count() + 1..=MOST_CALLBACKS;
+        self.running > table.count()
+            || beyond
+                .into_iter()
+                .any(|i| self.cached(i) || self.waiting(i) != 0 || self.finished(i) != 0)
+    }
+
+    /// "a waiting count is above 255, a callback has finished more instances than ticks were taken"
+    fn count_fault(&self, table: &Table) -> bool {
+        (1..=table.count()).any(|i| self.waiting(i) > MOST_WAITING || self.finished(i) > self.ticks)
+    }
+
+    /// "a cached [..] callback has none waiting, a timer is cached"
+    fn cache_fault(&self, table: &Table) -> bool {
+        let mut cached = (1..=table.count()).filter(|&i| self.cached(i));
+        cached.any(|i| self.waiting(i) == 0 || table.callback(i).kind == Kind::Timer)
+    }
+
+    /// "a [..] running callback has none waiting, [..] a running non-timer is not cached, or the
+    /// units left are not 1 to 60,000 while something runs, or not 0 while nothing does"
+    fn running_fault(&self, table: &Table) -> bool {
+        if self.running == 0 {
+            return self.units != 0;
+        }
+        let timer = table.callback(self.running).kind == Kind::Timer;
+        self.waiting(self.running) == 0
+            || (!timer && !self.cached(self.running))
+            || !(1..=LARGEST).contains(&self.units)
+    }
+
+    /// "a head in the mask has 255 waiting before the tick, or a next that this tick would activate
+    /// has 255 (lowest such)"
+    fn check_room(&self, table: &Table, tick: Tick, reply: Reply) -> Result<(), Refusal> {
+        let activated = match reply.outcome {
+            Ok(Answer::Finished { callback, .. }) => bit(table.callback(callback).next),
+            _ => 0,
+        };
+        for index in 1..=table.count() {
+            let gains = (tick.mask | activated) & bit(index) != 0;
+            if gains && self.waiting(index) == MOST_WAITING {
+                return Err(refusal(21, index));
+            }
+        }
+        Ok(())
+    }
+
+    /// The tick itself, steps 1 to 4; the state is without fault and the tick in range.
+    fn advance(mut self, table: &Table, tick: Tick) -> Step {
+        self.ticks += 1;
+        self.arrive(tick.mask);
+        let mut reply = Reply {
+            outcome: Ok(Answer::NoSupply),
+            started: false,
+            polled: false,
+            gathered: 0,
+        };
+        // "In an unsupplied tick nothing else happens."
+        if tick.supplied {
+            if self.running == 0 {
+                self.choose(table, tick.cost, &mut reply);
+            }
+            reply.outcome = Ok(self.work(table));
+        }
+        Step { state: self, reply }
     }
 
     /// "Heads in the mask gain one waiting instance each."
-    fn arrive(&mut self, table: &Table, mask: u16) {
-        for index in 1..=table.count() {
+    fn arrive(&mut self, mask: u16) {
+        for index in 1..=MOST_CALLBACKS {
             if mask & bit(index) != 0 {
                 self.waiting[index - 1] += 1;
             }
         }
     }
 
-    /// "the first timer in priority that waits is chosen. If none waits, the
-    /// first callback in the cache. If the cache is empty too, this is a
-    /// polling point"
+    /// "If nothing runs: the first timer in priority that waits is chosen. If none waits, the first
+    /// callback in the cache. If the cache is empty too, this is a polling point: the cache takes
+    /// every non-timer that waits, and the first in it is chosen, if any. The chosen instance
+    /// starts and runs, its units being the tick's cost."
     fn choose(&mut self, table: &Table, cost: u64, reply: &mut Reply) {
-        let timer = first(table, |i| is_timer(table, i) && self.waiting(i) > 0);
-        if timer.is_none() && self.cache == 0 {
-            self.poll(table);
+        let waits = (1..=table.count()).filter(|&i| self.waiting(i) > 0);
+        let waiting = waits.fold(0, |mask, i| mask | bit(i));
+        let timers = kind_mask(table, Kind::Timer);
+        let mut chosen = first(table, waiting & timers);
+        if chosen == 0 && self.cache != 0 {
+            chosen = first(table, self.cache);
+        } else if chosen == 0 {
+            self.cache = waiting & !timers;
             reply.polled = true;
             reply.gathered = self.cache.count_ones();
+            chosen = first(table, self.cache);
         }
-        let chosen = timer.or_else(|| first(table, |i| self.cached(i)));
-        if let Some(index) = chosen {
-            self.running = index;
+        if chosen != 0 {
+            self.running = chosen;
             self.units = cost;
             reply.started = true;
         }
     }
 
-    /// "the cache takes every non-timer that waits"
-    fn poll(&mut self, table: &Table) {
-        for index in 1..=table.count() {
-            if !is_timer(table, index) && self.waiting(index) > 0 {
-                self.cache |= bit(index);
-            }
-        }
-    }
-
-    /// "The running instance loses one unit. At zero it finishes at the time
-    /// after this tick, leaves its callback's waiting count and the cache, and
-    /// activates next at that time."
-    fn run(&mut self, table: &Table) -> Answer {
+    /// "The running instance loses one unit. At zero it finishes at the time after this tick, leaves
+    /// its callback's waiting count and the cache, and activates next at that time."
+    fn work(&mut self, table: &Table) -> Answer {
         let callback = self.running;
         if callback == 0 {
             return Answer::Idle;
         }
+        // "Instances count from 1."
         let instance = self.finished(callback) + 1;
         self.units -= 1;
         if self.units > 0 {
@@ -261,30 +297,12 @@ impl State {
     }
 }
 
-/// "Priority goes by kind number, then by index; the smaller goes first."
-fn first(table: &Table, wanted: impl Fn(usize) -> bool) -> Option<usize> {
-    (1..=table.count())
-        .filter(|&i| wanted(i))
-        .min_by_key(|&i| (table.callback(i).kind, i))
-}
-
-fn is_timer(table: &Table, index: usize) -> bool {
-    index <= table.count() && table.callback(index).kind == Kind::Timer
-}
-
-fn plain(outcome: Result<Answer, Refusal>) -> Reply {
-    Reply {
-        outcome,
-        started: false,
-        polled: false,
-        gathered: 0,
+/// "a bit set in the mask belongs to no head of the table (lowest such bit, plus 1)"
+fn check_mask(table: &Table, mask: u16) -> Result<(), Refusal> {
+    for index in 1..=MOST_CALLBACKS {
+        if mask & bit(index) != 0 && !table.is_head(index) {
+            return Err(refusal(20, index));
+        }
     }
-}
-
-/// "A refused tick gives none of the four, and beside it no, no and 0."
-fn refused(state: State, refusal: Refusal) -> Step {
-    Step {
-        state,
-        reply: plain(Err(refusal)),
-    }
+    Ok(())
 }

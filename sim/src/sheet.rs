@@ -1,9 +1,9 @@
-//! The curves and the timing sheet, with refusals 15 to 17.
+//! The curves and the sheet: window, bounds and the analyser (refusals 15 to 17).
 
-use crate::table::{read, Callback, Refusal, Table, MOST_CALLBACKS};
+use crate::table::{read, refusal, Callback, Refusal, Table, MOST_CALLBACKS};
 
-/// "a(0) = 0; for D over 0, a(D) is the smaller of (D + J) / T and D / d,
-/// each rounded up"
+/// "Arrivals of a head, at most: a(0) = 0; for D over 0, a(D) is the smaller of (D + J) / T and
+/// D / d, each rounded up." (T and d must not be zero)
 pub fn arrivals(head: &Callback, length: u64) -> u64 {
     if length == 0 {
         return 0;
@@ -13,186 +13,153 @@ pub fn arrivals(head: &Callback, length: u64) -> u64 {
     by_period.min(by_distance)
 }
 
-/// "E(0) = 0, the entries up to m, and beyond them E(q × m + r) = q × E(m) +
-/// E(r) with r below m"
+/// "Cost of n consecutive instances, at most: E(0) = 0, the entries up to m, and beyond them
+/// E(q × m + r) = q × E(m) + E(r) with r below m."
 pub fn cost(entries: &[u64], instances: u64) -> u64 {
     let most = entries.len() as u64;
     if instances == 0 {
-        0
-    } else if instances <= most {
-        entries[instances as usize - 1]
-    } else {
-        let (q, r) = (instances / most, instances % most);
-        q * entries[most as usize - 1] + cost(entries, r)
+        return 0;
     }
+    if instances <= most {
+        return entries[instances as usize - 1];
+    }
+    let (times, rest) = (instances / most, instances % most);
+    times * entries[entries.len() - 1] + cost(entries, rest)
 }
 
-/// "with g = P - Q, s(D) = 0 for D below g; otherwise, with k = (D - g) / P
+/// "Supply, at least: with g = P - Q, s(D) = 0 for D below g; otherwise, with k = (D - g) / P
 /// rounded down, s(D) = k × Q + the larger of 0 and D - 2 × g - k × P"
 pub fn supply(budget: u64, period: u64, length: u64) -> u64 {
     let gap = period - budget;
     if length < gap {
         return 0;
     }
-    let k = (length - gap) / period;
-    let rest = length as i64 - 2 * gap as i64 - (k * period) as i64;
-    k * budget + rest.max(0) as u64
+    let whole = (length - gap) / period;
+    whole * budget + length.saturating_sub(2 * gap + whole * period)
 }
 
-/// "a for a follower is that of its chain's head."
-pub fn chain_arrivals(table: &Table, index: usize, length: u64) -> u64 {
-    arrivals(table.callback(table.head_of(index)), length)
-}
-
-/// E(a(D)) of one callback.
-pub fn callback_demand(table: &Table, index: usize, length: u64) -> u64 {
-    cost(
-        &table.callback(index).entries,
-        chain_arrivals(table, index, length),
-    )
+/// "a for a follower is that of its chain's head." The cost curve of the callback at a(length).
+fn cost_in(table: &Table, index: usize, length: u64) -> u64 {
+    let head = table.callback(table.head_of(index));
+    cost(&table.callback(index).entries, arrivals(head, length))
 }
 
 /// "the sum over all callbacks of E(a(W))"
-pub fn demand(table: &Table, length: u64) -> u64 {
-    (1..=table.count())
-        .map(|index| callback_demand(table, index, length))
-        .sum()
+fn cost_of_all(table: &Table, length: u64) -> u64 {
+    let all = 1..=table.count();
+    all.map(|i| cost_in(table, i, length)).sum()
 }
 
-fn table_supply(table: &Table, length: u64) -> u64 {
-    supply(table.budget, table.period, length)
+/// "the sum over all other callbacks of E(a(D))"
+fn cost_of_others(table: &Table, index: usize, length: u64) -> u64 {
+    let others = (1..=table.count()).filter(|&i| i != index);
+    others.map(|i| cost_in(table, i, length)).sum()
 }
 
-/// "The window W is the least length in 1 to H with s(W) at least the sum
-/// over all callbacks of E(a(W))." The literal search.
+/// "The window W is the least length in 1 to H with s(W) at least the sum over all callbacks of
+/// E(a(W))."
 pub fn window_literal(table: &Table) -> Option<u64> {
     (1..=table.longest_window())
-        .find(|&length| table_supply(table, length) >= demand(table, length))
+        .find(|&w| supply(table.budget, table.period, w) >= cost_of_all(table, w))
 }
 
-/// The same window as `window_literal`, each chain's head looked up once.
-pub fn window(table: &Table) -> Option<u64> {
-    let heads: Vec<&Callback> = (1..=table.count())
-        .map(|index| table.callback(table.head_of(index)))
-        .collect();
-    let demand = |length: u64| -> u64 {
-        let pairs = table.callbacks.iter().zip(&heads);
-        pairs
-            .map(|(callback, head)| cost(&callback.entries, arrivals(head, length)))
-            .sum()
-    };
-    (1..=table.longest_window()).find(|&length| table_supply(table, length) >= demand(length))
-}
-
-/// "F(A) is the least positive D with s(D) at least E of e at a(A + 1), plus
-/// the sum over all other callbacks of E(a(D))."
-pub fn finish(table: &Table, index: usize, offset: u64) -> u64 {
-    let own = cost(
-        &table.callback(index).entries,
-        chain_arrivals(table, index, offset + 1),
-    );
-    let others = |length: u64| -> u64 {
-        (1..=table.count())
-            .filter(|&other| other != index)
-            .map(|other| callback_demand(table, other, length))
-            .sum()
-    };
-    (1..)
-        .find(|&length| table_supply(table, length) >= own + others(length))
-        .expect("F(A) is never above W")
-}
-
-/// "The bound of e is the largest F(A) - A", for "each offset A in 0 to
-/// W - 1". The literal search.
+/// "For callback e and each offset A in 0 to W - 1, F(A) is the least positive D with s(D) at least
+/// E of e at a(A + 1), plus the sum over all other callbacks of E(a(D)). The bound of e is the
+/// largest F(A) - A. F(A) is never above W."
 pub fn bound_literal(table: &Table, index: usize, window: u64) -> u64 {
-    (0..window)
-        .map(|offset| finish(table, index, offset) as i64 - offset as i64)
-        .max()
-        .expect("a window has an offset") as u64
-}
-
-/// The curves of a table, written out for the lengths 0 to its window.
-struct Curves {
-    supply: Vec<u64>,
-    demand: Vec<u64>,
-    /// By place of the callback, then by length: E(a(D)).
-    each: Vec<Vec<u64>>,
-}
-
-fn curves(table: &Table, window: u64) -> Curves {
-    let each: Vec<Vec<u64>> = (1..=table.count())
-        .map(|index| {
-            let head = table.callback(table.head_of(index));
-            let entries = &table.callback(index).entries;
-            (0..=window)
-                .map(|length| cost(entries, arrivals(head, length)))
-                .collect()
-        })
-        .collect();
-    Curves {
-        supply: (0..=window)
-            .map(|length| table_supply(table, length))
-            .collect(),
-        demand: (0..=window as usize)
-            .map(|d| each.iter().map(|row| row[d]).sum())
-            .collect(),
-        each,
-    }
-}
-
-/// The same bound as `bound_literal`: a does not fall, so neither does F, and
-/// the search at each offset may begin where the one before it ended.
-fn bound_rising(curves: &Curves, index: usize, window: u64) -> u64 {
-    let own = &curves.each[index - 1];
-    let mut length = 1;
-    let mut largest = 0;
-    for offset in 0..window as usize {
-        while curves.supply[length] < own[offset + 1] + curves.demand[length] - own[length] {
-            length += 1;
+    let mut bound = 0;
+    for offset in 0..window {
+        let own = cost_in(table, index, offset + 1);
+        for length in 1..=window {
+            let needed = own + cost_of_others(table, index, length);
+            if supply(table.budget, table.period, length) >= needed {
+                bound = bound.max(length.saturating_sub(offset));
+                break;
+            }
         }
-        largest = largest.max(length as i64 - offset as i64);
     }
-    largest as u64
+    bound
 }
 
-/// The bounds of callbacks 1 to n.
+/// The number of `window_literal`, by jumps. Where the supply of a length L falls short of the
+/// cost by x, no length below L + x is a window: the supply grows by at most 1 a tick, and the
+/// cost never falls with the length. So jumping to L + x skips no window.
+pub fn window(table: &Table) -> Option<u64> {
+    let mut length = 1;
+    while length <= table.longest_window() {
+        let needed = cost_of_all(table, length);
+        let supplied = supply(table.budget, table.period, length);
+        if supplied >= needed {
+            return Some(length);
+        }
+        length += needed - supplied;
+    }
+    None
+}
+
+/// The numbers of `bound_literal` for callbacks 1 to n. Shortcut 1: each value of each curve at 0
+/// to W is reckoned once and kept; these are the same values. Shortcut 2: the sum over the others
+/// is the sum over all less the callback's own. For shortcut 3 see `bound_by_rows`.
 pub fn bounds(table: &Table, window: u64) -> Vec<u64> {
-    let curves = curves(table, window);
-    (1..=table.count())
-        .map(|index| bound_rising(&curves, index, window))
+    let supplied: Vec<u64> = (0..=window)
+        .map(|d| supply(table.budget, table.period, d))
+        .collect();
+    let costs: Vec<Vec<u64>> = (1..=table.count())
+        .map(|i| cost_row(table, i, window))
+        .collect();
+    let all: Vec<u64> = (0..supplied.len())
+        .map(|d| costs.iter().map(|row| row[d]).sum())
+        .collect();
+    let each = costs.iter();
+    each.map(|own| bound_by_rows(&supplied, own, &all))
         .collect()
 }
 
-/// "The analyser writes bounds 1 to n into a lent row of sixteen-bit numbers
-/// and touches no place beyond n. It returns W."
+/// The callback's E(a(D)) for D in 0 to `window`.
+fn cost_row(table: &Table, index: usize, window: u64) -> Vec<u64> {
+    let head = table.callback(table.head_of(index));
+    let entries = &table.callback(index).entries;
+    let lengths = 0..=window;
+    lengths.map(|d| cost(entries, arrivals(head, d))).collect()
+}
+
+/// Shortcut 3: E of e at a(A + 1) never falls as A grows, so a length that is too short for one
+/// offset is too short for every later one. The search for F(A + 1) therefore begins at F(A), and
+/// where an offset has no length up to W, no later one has.
+fn bound_by_rows(supplied: &[u64], own: &[u64], all: &[u64]) -> u64 {
+    let (mut bound, mut length) = (0, 1);
+    for offset in 0..supplied.len() - 1 {
+        let short = |d: usize| supplied[d] < own[offset + 1] + (all[d] - own[d]);
+        while length < supplied.len() && short(length) {
+            length += 1;
+        }
+        if length == supplied.len() {
+            break;
+        }
+        bound = bound.max(length.saturating_sub(offset) as u64);
+    }
+    bound
+}
+
+/// "The analyser writes bounds 1 to n into a lent row of sixteen-bit numbers and touches no place
+/// beyond n. It returns W." Total.
 pub fn analyse(bytes: &[u8], row: &mut [u16]) -> Result<u64, Refusal> {
     if row.len() < MOST_CALLBACKS {
-        return Err(Refusal {
-            number: 17,
-            index: 0,
-        });
+        return Err(refusal(17, 0));
     }
     let table = read(bytes)?;
-    let window = window_or_refusal(&table)?;
-    for (place, bound) in bounds(&table, window).into_iter().enumerate() {
-        row[place] = bound as u16;
+    let window = window(&table).ok_or(refusal(15, 0))?;
+    if let Some(head) = crowded_head(&table, window) {
+        return Err(refusal(16, head));
+    }
+    for (place, bound) in row.iter_mut().zip(bounds(&table, window)) {
+        // A bound is at most W, and W at most 60,000.
+        *place = bound as u16;
     }
     Ok(window)
 }
 
-/// "15 no W"; "16 a(W) above 255 (lowest such head)"
-fn window_or_refusal(table: &Table) -> Result<u64, Refusal> {
-    let window = window(table).ok_or(Refusal {
-        number: 15,
-        index: 0,
-    })?;
-    let crowded = (1..=table.count())
-        .find(|&index| table.is_head(index) && arrivals(table.callback(index), window) > 255);
-    match crowded {
-        Some(index) => Err(Refusal {
-            number: 16,
-            index: index as u8,
-        }),
-        None => Ok(window),
-    }
+/// "a(W) above 255 (lowest such head)"
+fn crowded_head(table: &Table, window: u64) -> Option<usize> {
+    (1..=table.count()).find(|&i| table.is_head(i) && arrivals(table.callback(i), window) > 255)
 }

@@ -1,14 +1,9 @@
-//! The callback table: its reader, with refusals 1 to 14, and its encoder.
+//! The callback table: its values, its bytes and its reader (refusals 1 to 14).
 
-/// "byte 1 count n, 1 to 16"
 pub const MOST_CALLBACKS: usize = 16;
-/// The largest period, jitter, horizon and cost.
 pub const LARGEST: u64 = 60_000;
-/// "The header has 16 bytes"
 pub const HEADER_BYTES: usize = 16;
-/// "Then come n records of 32 bytes"
 pub const RECORD_BYTES: usize = 32;
-/// "eight two-byte entries E(1) to E(8)"
 pub const MOST_ENTRIES: usize = 8;
 
 /// "With the number goes a callback index, 0 where none is said."
@@ -18,7 +13,7 @@ pub struct Refusal {
     pub index: u8,
 }
 
-/// "kind (1 timer, 2 subscription, 3 service, 4 client)"
+/// "byte 0 kind (1 timer, 2 subscription, 3 service, 4 client)"
 #[derive(Clone, Copy, Debug, PartialEq, Eq, PartialOrd, Ord)]
 pub enum Kind {
     Timer = 1,
@@ -27,230 +22,221 @@ pub enum Kind {
     Client = 4,
 }
 
+/// One record; `entries` are the m used ones, `period` is T, `jitter` J, `distance` d.
 #[derive(Clone, Debug, PartialEq, Eq)]
 pub struct Callback {
     pub kind: Kind,
-    /// "the callback that each completion activates, where zero ends the chain"
     pub next: usize,
-    /// E(1) to E(m)
     pub entries: Vec<u64>,
-    /// T
     pub period: u64,
-    /// J
     pub jitter: u64,
-    /// d
     pub distance: u64,
 }
 
+/// Header and records; `budget` is Q, `period` P, `horizon` H as written.
 #[derive(Clone, Debug, PartialEq, Eq)]
 pub struct Table {
-    /// Q
     pub budget: u64,
-    /// P
     pub period: u64,
-    /// H as it is written
     pub horizon: u64,
-    /// Callbacks 1 to n, in places 0 to n - 1.
     pub callbacks: Vec<Callback>,
 }
 
 impl Table {
+    /// "count n, 1 to 16"
     pub fn count(&self) -> usize {
         self.callbacks.len()
     }
 
+    /// "n records of 32 bytes, callbacks 1 to n" (the index must be 1 to n)
     pub fn callback(&self, index: usize) -> &Callback {
         &self.callbacks[index - 1]
     }
 
     /// "horizon H, at most 60,000, where 0 means 60,000"
     pub fn longest_window(&self) -> u64 {
-        if self.horizon == 0 {
-            LARGEST
-        } else {
-            self.horizon
+        match self.horizon {
+            0 => LARGEST,
+            written => written,
         }
-    }
-
-    /// How many records name this callback as next.
-    fn times_named(&self, index: usize) -> usize {
-        self.callbacks.iter().filter(|c| c.next == index).count()
     }
 
     /// "A head is a callback that no record names as next."
     pub fn is_head(&self, index: usize) -> bool {
-        1 <= index && index <= self.count() && self.times_named(index) == 0
+        (1..=self.count()).contains(&index) && self.names_of(index) == 0
     }
 
-    /// Whether next leads from this callback back to it.
-    fn on_loop(&self, index: usize) -> bool {
-        let mut at = self.callback(index).next;
-        for _ in 0..self.count() {
-            if at == 0 || at == index {
-                break;
-            }
-            at = self.callback(at).next;
-        }
-        at == index
-    }
-
-    /// "The head of a callback's chain is the head from which next leads to
-    /// it, in any number of steps; a head's is itself."
+    /// "The head of a callback's chain is the head from which next leads to it, in any number of
+    /// steps; a head's is itself." (n steps back are enough, and end the walk on a loop too)
     pub fn head_of(&self, index: usize) -> usize {
-        let leads = |head: usize| {
-            let mut at = head;
-            while at != 0 && at != index {
-                at = self.callback(at).next;
+        let mut here = index;
+        for _ in 0..self.count() {
+            match self.namer(here) {
+                Some(before) => here = before,
+                None => break,
             }
-            at == index
-        };
-        (1..=self.count())
-            .find(|&head| self.is_head(head) && leads(head))
-            .expect("without loops every callback has a head")
+        }
+        here
+    }
+
+    /// The first callback that names `index` as next.
+    fn namer(&self, index: usize) -> Option<usize> {
+        (1..=self.count()).find(|&i| index != 0 && self.callback(i).next == index)
+    }
+
+    /// How many records name `index` as next.
+    fn names_of(&self, index: usize) -> usize {
+        self.callbacks.iter().filter(|c| c.next == index).count()
+    }
+
+    /// "on a loop": next leads from the callback back to itself.
+    fn on_loop(&self, index: usize) -> bool {
+        let mut here = index;
+        for _ in 0..self.count() {
+            here = self.callback(here).next;
+            if here == 0 {
+                return false;
+            }
+            if here == index {
+                return true;
+            }
+        }
+        false
+    }
+}
+
+/// A refusal from its number and index.
+pub(crate) fn refusal(number: u8, index: usize) -> Refusal {
+    Refusal {
+        number,
+        index: index as u8,
     }
 }
 
 /// "Fields are unsigned and little-endian."
 fn word(bytes: &[u8], at: usize) -> u64 {
-    u64::from(u16::from_le_bytes([bytes[at], bytes[at + 1]]))
+    u64::from(bytes[at]) + 256 * u64::from(bytes[at + 1])
 }
 
-fn record(bytes: &[u8], index: usize) -> &[u8] {
-    let start = HEADER_BYTES + RECORD_BYTES * (index - 1);
-    &bytes[start..start + RECORD_BYTES]
-}
-
+/// Refuses with the number and index if the condition holds.
 fn refuse_if(condition: bool, number: u8, index: usize) -> Result<(), Refusal> {
     if condition {
-        Err(Refusal {
-            number,
-            index: index as u8,
-        })
+        Err(refusal(number, index))
     } else {
         Ok(())
     }
 }
 
-/// "Top to bottom, first match."
+/// "Top to bottom, first match.": header, each record in turn, links, arrivals. Total.
 pub fn read(bytes: &[u8]) -> Result<Table, Refusal> {
     check_header(bytes)?;
-    let count = usize::from(bytes[1]);
-    for index in 1..=count {
-        check_record(record(bytes, index), index, count)?;
+    let mut callbacks = Vec::new();
+    let records = bytes[HEADER_BYTES..].chunks(RECORD_BYTES);
+    for (place, record) in records.enumerate() {
+        callbacks.push(read_record(record, place + 1, usize::from(bytes[1]))?);
     }
-    let table = decode(bytes);
+    let table = Table {
+        budget: word(bytes, 2),
+        period: word(bytes, 4),
+        horizon: word(bytes, 6),
+        callbacks,
+    };
     check_links(&table)?;
     check_arrivals(&table)?;
     Ok(table)
 }
 
+/// "The header has 16 bytes: byte 0 edition, 1; byte 1 count n, 1 to 16; bytes 2-3 budget Q; 4-5
+/// period P; 6-7 horizon H, at most 60,000, where 0 means 60,000; bytes 8-15 zero."
 fn check_header(bytes: &[u8]) -> Result<(), Refusal> {
     refuse_if(bytes.len() < HEADER_BYTES, 1, 0)?;
     refuse_if(bytes[0] != 1, 2, 0)?;
     let count = usize::from(bytes[1]);
     refuse_if(!(1..=MOST_CALLBACKS).contains(&count), 3, 0)?;
     refuse_if(bytes.len() != HEADER_BYTES + RECORD_BYTES * count, 4, 0)?;
-    refuse_if(bytes[8..16].iter().any(|&byte| byte != 0), 5, 0)?;
-    let (budget, period) = (word(bytes, 2), word(bytes, 4));
+    refuse_if(bytes[8..16].iter().any(|&b| b != 0), 5, 0)?;
+    let (budget, period, horizon) = (word(bytes, 2), word(bytes, 4), word(bytes, 6));
     refuse_if(budget == 0 || budget > period || period > LARGEST, 6, 0)?;
-    refuse_if(word(bytes, 6) > LARGEST, 7, 0)
+    refuse_if(horizon > LARGEST, 7, 0)
 }
 
-fn check_record(record: &[u8], index: usize, count: usize) -> Result<(), Refusal> {
-    refuse_if(!(1..=4).contains(&record[0]), 8, index)?;
-    refuse_if(usize::from(record[1]) > count, 9, index)?;
+/// "Record: byte 0 kind [..]; byte 1 next [..]; byte 2 m, the number of cost entries, 1 to 8; byte
+/// 3 zero; bytes 4-5 T; 6-7 J; 8-9 d; 10-11 zero; 12-27 eight two-byte entries E(1) to E(8), zero
+/// beyond m; 28-31 zero."
+fn read_record(record: &[u8], index: usize, count: usize) -> Result<Callback, Refusal> {
+    let kind = kind_of(record[0]).ok_or(refusal(8, index))?;
+    let next = usize::from(record[1]);
+    refuse_if(next > count, 9, index)?;
     let used = usize::from(record[2]);
     refuse_if(!(1..=MOST_ENTRIES).contains(&used), 10, index)?;
-    let entries: Vec<u64> = (0..MOST_ENTRIES)
-        .map(|e| word(record, 12 + 2 * e))
+    let all: Vec<u64> = (0..MOST_ENTRIES)
+        .map(|i| word(record, 12 + 2 * i))
         .collect();
-    refuse_if(!entries_rule(&entries[..used]), 10, index)?;
-    let spare = record[3] != 0
-        || record[10..12].iter().any(|&byte| byte != 0)
-        || record[28..32].iter().any(|&byte| byte != 0);
-    refuse_if(
-        spare || entries[used..].iter().any(|&entry| entry != 0),
-        5,
-        index,
-    )
-}
-
-/// "Entries rise strictly and lie in 1 to 60,000."
-fn entries_rule(entries: &[u64]) -> bool {
-    entries.iter().all(|entry| (1..=LARGEST).contains(entry))
-        && entries.windows(2).all(|pair| pair[0] < pair[1])
-}
-
-/// The values of a table whose header and records have been tested.
-fn decode(bytes: &[u8]) -> Table {
-    let callbacks = (1..=usize::from(bytes[1]))
-        .map(|index| decode_record(record(bytes, index)))
-        .collect();
-    Table {
-        budget: word(bytes, 2),
-        period: word(bytes, 4),
-        horizon: word(bytes, 6),
-        callbacks,
-    }
-}
-
-fn decode_record(record: &[u8]) -> Callback {
-    let kind = match record[0] {
-        1 => Kind::Timer,
-        2 => Kind::Subscription,
-        3 => Kind::Service,
-        _ => Kind::Client,
-    };
-    Callback {
+    let (entries, unused) = all.split_at(used);
+    refuse_if(!entries_by_the_rules(entries), 10, index)?;
+    let spare = [3, 10, 11, 28, 29, 30, 31];
+    let dirty = unused.iter().any(|&e| e != 0) || spare.iter().any(|&at| record[at] != 0);
+    refuse_if(dirty, 5, index)?;
+    Ok(Callback {
         kind,
-        next: usize::from(record[1]),
-        entries: (0..usize::from(record[2]))
-            .map(|e| word(record, 12 + 2 * e))
-            .collect(),
+        next,
+        entries: entries.to_vec(),
         period: word(record, 4),
         jitter: word(record, 6),
         distance: word(record, 8),
+    })
+}
+
+/// "kind (1 timer, 2 subscription, 3 service, 4 client)"
+fn kind_of(byte: u8) -> Option<Kind> {
+    match byte {
+        1 => Some(Kind::Timer),
+        2 => Some(Kind::Subscription),
+        3 => Some(Kind::Service),
+        4 => Some(Kind::Client),
+        _ => None,
     }
 }
 
-/// "No callback is named twice, a timer is never named, and there are no
-/// loops."
+/// "Entries rise strictly and lie in 1 to 60,000."
+fn entries_by_the_rules(entries: &[u64]) -> bool {
+    entries.iter().all(|e| (1..=LARGEST).contains(e)) && entries.windows(2).all(|p| p[0] < p[1])
+}
+
+/// "No callback is named twice, a timer is never named, and there are no loops."
 fn check_links(table: &Table) -> Result<(), Refusal> {
-    let lowest = |fault: &dyn Fn(usize) -> bool| (1..=table.count()).find(|&index| fault(index));
-    if let Some(index) = lowest(&|index| table.times_named(index) >= 2) {
-        return refuse_if(true, 11, index);
-    }
-    let timer = |index| table.callback(index).kind == Kind::Timer;
-    if let Some(index) = lowest(&|index| timer(index) && table.times_named(index) > 0) {
-        return refuse_if(true, 12, index);
-    }
-    match lowest(&|index| table.on_loop(index)) {
-        Some(index) => refuse_if(true, 13, index),
-        None => Ok(()),
-    }
-}
-
-/// "head: T or J above 60,000, T zero, d not 1 to T; follower: any not zero
-/// (lowest such)"
-fn check_arrivals(table: &Table) -> Result<(), Refusal> {
     for index in 1..=table.count() {
-        let Callback {
-            period,
-            jitter,
-            distance,
-            ..
-        } = *table.callback(index);
-        let fault = if table.is_head(index) {
-            period > LARGEST || jitter > LARGEST || period == 0 || !(1..=period).contains(&distance)
-        } else {
-            period != 0 || jitter != 0 || distance != 0
-        };
-        refuse_if(fault, 14, index)?;
+        refuse_if(table.names_of(index) >= 2, 11, index)?;
+    }
+    for index in 1..=table.count() {
+        let timer = table.callback(index).kind == Kind::Timer;
+        refuse_if(timer && table.names_of(index) > 0, 12, index)?;
+    }
+    for index in 1..=table.count() {
+        refuse_if(table.on_loop(index), 13, index)?;
     }
     Ok(())
 }
 
-/// The bytes of a table, whether or not the reader would take them.
+/// "head: T or J above 60,000, T zero, d not 1 to T; follower: any not zero (lowest such)"
+fn check_arrivals(table: &Table) -> Result<(), Refusal> {
+    for index in 1..=table.count() {
+        let c = table.callback(index);
+        let wrong = if table.is_head(index) {
+            c.period > LARGEST
+                || c.jitter > LARGEST
+                || c.period == 0
+                || !(1..=c.period).contains(&c.distance)
+        } else {
+            c.period != 0 || c.jitter != 0 || c.distance != 0
+        };
+        refuse_if(wrong, 14, index)?;
+    }
+    Ok(())
+}
+
+/// The bytes of a table's values, edition 1, whether or not the reader would take them. A value
+/// too large for its field keeps its low bits; entries beyond the eighth have no place.
 pub fn encode(table: &Table) -> Vec<u8> {
     let mut bytes = vec![1, table.count() as u8];
     for value in [table.budget, table.period, table.horizon] {
@@ -263,19 +249,16 @@ pub fn encode(table: &Table) -> Vec<u8> {
     bytes
 }
 
-fn encode_record(callback: &Callback) -> [u8; RECORD_BYTES] {
-    let mut record = [0; RECORD_BYTES];
-    record[0] = callback.kind as u8;
-    record[1] = callback.next as u8;
-    record[2] = callback.entries.len() as u8;
-    let mut put = |at: usize, value: u64| {
-        record[at..at + 2].copy_from_slice(&(value as u16).to_le_bytes());
-    };
-    put(4, callback.period);
-    put(6, callback.jitter);
-    put(8, callback.distance);
-    for (place, &entry) in callback.entries.iter().enumerate() {
-        put(12 + 2 * place, entry);
+/// "Then come n records of 32 bytes, callbacks 1 to n."
+fn encode_record(callback: &Callback) -> Vec<u8> {
+    let kind = callback.kind as u8;
+    let mut record = vec![kind, callback.next as u8, callback.entries.len() as u8, 0];
+    for value in [callback.period, callback.jitter, callback.distance, 0] {
+        record.extend((value as u16).to_le_bytes());
     }
+    for &entry in callback.entries.iter().take(MOST_ENTRIES) {
+        record.extend((entry as u16).to_le_bytes());
+    }
+    record.resize(RECORD_BYTES, 0);
     record
 }

@@ -94,10 +94,12 @@ fn p10_polling_points() {
     assert_eq!(polls, [(0, 2), (4, 1), (6, 0)]);
 }
 
-/// "Taking F at offset 0 only: P4 would give 4."
+/// "Taking F at offset 0 only: P4 would give 4." With the one offset of a window of 4 it does.
 #[test]
 fn p4_at_offset_0_only() {
-    assert_eq!(sim::sheet::finish(&full(vec![p2(&[4])]), 1, 0), 4);
+    let table = full(vec![p2(&[4])]);
+    assert_eq!(sim::sheet::bound_literal(&table, 1, 4), 4);
+    assert_eq!(sim::sheet::bound_literal(&table, 1, 12), 7);
 }
 
 /// "Letting J into a(0), or holding E at its last entry."

@@ -4,8 +4,28 @@ mod common;
 use common::*;
 use sim::generate::tables::{table, Shape};
 use sim::random::Random;
-use sim::sheet::{analyse, bound_literal, bounds, demand, finish, supply, window, window_literal};
-use sim::table::{encode, Kind};
+use sim::sheet::{analyse, arrivals, bound_literal, bounds, cost, supply, window, window_literal};
+use sim::table::{encode, Kind, Table};
+
+/// E(a(D)) of one callback.
+fn demand(table: &Table, index: usize, length: u64) -> u64 {
+    let head = table.callback(table.head_of(index));
+    cost(&table.callback(index).entries, arrivals(head, length))
+}
+
+/// "F(A) is the least positive D with s(D) at least E of e at a(A + 1), plus the sum over all
+/// other callbacks of E(a(D))", with no end to the search.
+fn finish(table: &Table, index: usize, offset: u64) -> u64 {
+    let needed = |length| -> u64 {
+        let others = (1..=table.count()).filter(|&other| other != index);
+        others.map(|other| demand(table, other, length)).sum()
+    };
+    let own = demand(table, index, offset + 1);
+    let mut lengths = 1..;
+    let covered =
+        |&length: &u64| supply(table.budget, table.period, length) >= own + needed(length);
+    lengths.find(covered).expect("a length")
+}
 
 #[test]
 fn faster_searches_agree_with_the_literal_ones() {
@@ -39,6 +59,8 @@ fn finish_does_not_fall_and_stays_within_the_window() {
             let times: Vec<u64> = (0..window).map(|a| finish(&table, index, a)).collect();
             assert!(times.windows(2).all(|pair| pair[0] <= pair[1]));
             assert!(times.iter().all(|&time| 1 <= time && time <= window));
+            let longest = (0..window).zip(&times).map(|(a, &time)| time - a).max();
+            assert_eq!(longest, Some(bound_literal(&table, index, window)));
         }
     }
 }
@@ -85,7 +107,8 @@ fn refusal_16_names_the_lowest_head() {
 fn sums_need_64_bits() {
     let dense = lone(Kind::Timer, 1, 60_000, 1, &[60_000]);
     let table = full(vec![dense; 16]);
-    assert_eq!(demand(&table, 60_000), 57_600_000_000);
+    let all: u64 = (1..=16).map(|index| demand(&table, index, 60_000)).sum();
+    assert_eq!(all, 57_600_000_000);
     assert_eq!(sheet(&table), Err(refusal(15, 0)));
     assert_eq!(supply(60_000, 60_000, 60_000), 60_000);
     assert_eq!(supply(1, 60_000, 119_998), 0);
