@@ -12,13 +12,13 @@ use borrow.Author.Tests.{eq-eqb, ne-eqb, not-true}
 use Rattle.curves.proofs.EveryLaws.{never-both}
 use Rattle.lent.specs.Over.{over}
 use Rattle.lent.proofs.Replace.{over-over, over-all}
-use Rattle.table.specs.declared.Reading.{Reading}
+use Rattle.reader.specs.declared.Reading.{Reading}
 use Rattle.table.specs.declared.Refusal.{Refusal}
 use Rattle.table.specs.declared.Table.{Table}
 use Rattle.table.specs.Numbers.{places}
 use Rattle.table.specs.Values.{refuse}
-use Rattle.table.specs.Format.{tableAt, readFault, readOf}
-use Rattle.table.proofs.Accepted.{reading-is, read-table, read-fits, read-few}
+use Rattle.reader.specs.Format.{tableAt, readFault, readOf}
+use Rattle.reader.proofs.Accepted.{reading-is, read-table, read-fits, read-few}
 use Rattle.sheet.specs.declared.Sheet.{Sheet}
 use Rattle.sheet.specs.Sheet.{sheetOf}
 use Rattle.executor.specs.declared.Machine.{Machine}

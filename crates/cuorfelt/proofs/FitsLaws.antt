@@ -26,10 +26,10 @@ use Rattle.table.specs.declared.Table.{Table}
 use Rattle.table.specs.Numbers.{places, entryPlaces}
 use Rattle.table.specs.Values.{refuse, accepted, blank, callbackAt, nextOf}
 use Rattle.table.specs.Priority.{foremost, foremostFrom}
-use Rattle.table.specs.Rules.{within, faultOf}
-use Rattle.table.specs.Format.{costAt, recordAt, recordStart, tableAt, readFault}
-use Rattle.table.proofs.Accepted.{records-length, read-few, read-record, read-blank}
-use Rattle.table.proofs.WrittenLaws.{CallbackFits, TableFits, Writable}
+use Rattle.reader.specs.Rules.{within, faultOf}
+use Rattle.reader.specs.Format.{costAt, recordAt, recordStart, tableAt, readFault}
+use Rattle.reader.proofs.Accepted.{records-length, read-few, read-record, read-blank}
+use Rattle.reader.proofs.WrittenLaws.{CallbackFits, TableFits, Writable}
 use Rattle.executor.specs.declared.Choice.{Choice}
 use Rattle.executor.specs.declared.Machine.{Machine}
 use Rattle.executor.specs.declared.Ticked.{Ticked}

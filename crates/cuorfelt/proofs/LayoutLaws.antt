@@ -27,12 +27,12 @@ use Rattle.table.specs.declared.Refusal.{Refusal}
 use Rattle.table.specs.declared.Table.{Table}
 use Rattle.table.specs.Numbers.{places, entryPlaces, headerLength, recordLength}
 use Rattle.table.specs.Values.{blank, vacant, callbackAt}
-use Rattle.table.specs.Rules.{faultOf}
-use Rattle.table.specs.Format.{recordStart, readFault, tableAt}
-use Rattle.table.specs.Written.{words, written}
-use Rattle.table.proofs.Sound.{sound}
-use Rattle.table.proofs.Accepted.{read-fits, read-few, read-accepted, read-blank}
-use Rattle.table.proofs.WrittenLaws.{past, zeros-past, run, one, TableFits, Writable, written-tableAt, length-written, header-written, tableAt-written, readFault-written}
+use Rattle.reader.specs.Rules.{faultOf}
+use Rattle.reader.specs.Format.{recordStart, readFault, tableAt}
+use Rattle.reader.specs.Written.{words, written}
+use Rattle.reader.proofs.Sound.{sound}
+use Rattle.reader.proofs.Accepted.{read-fits, read-few, read-accepted, read-blank}
+use Rattle.reader.proofs.WrittenLaws.{past, zeros-past, run, one, TableFits, Writable, written-tableAt, length-written, header-written, tableAt-written, readFault-written}
 use Rattle.executor.specs.declared.Machine.{Machine}
 use Rattle.executor.proofs.FaultLaws.{some-miss}
 use Rattle.executor.specs.State.{fresh, isBlank, tableFault, faulty}

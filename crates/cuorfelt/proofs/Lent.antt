@@ -12,10 +12,10 @@ use borrow.Author.Tests.{eqb-true, eqb-false, eq-eqb, ne-eqb}
 use Rattle.table.specs.declared.Refusal.{Refusal}
 use Rattle.table.specs.declared.Table.{Table}
 use Rattle.table.specs.Values.{accepted}
-use Rattle.table.specs.Rules.{faultOf}
-use Rattle.table.specs.Format.{readFault, readOf, tableAt}
-use Rattle.table.proofs.Accepted.{reading-is, read-table, read-accepted}
-use Rattle.table.proofs.WrittenLaws.{TableFits, Writable}
+use Rattle.reader.specs.Rules.{faultOf}
+use Rattle.reader.specs.Format.{readFault, readOf, tableAt}
+use Rattle.reader.proofs.Accepted.{reading-is, read-table, read-accepted}
+use Rattle.reader.proofs.WrittenLaws.{TableFits, Writable}
 use Rattle.executor.specs.declared.Answer.{Answer}
 use Rattle.executor.specs.declared.Answer.the-variants.{NoSupply, Idle, Ran, Finished}
 use Rattle.executor.specs.declared.Machine.{Machine}

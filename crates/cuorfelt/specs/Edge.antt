@@ -6,7 +6,7 @@ use lib.Dec.{eqb}
 use lib.ListN.{length}
 use Rattle.table.specs.declared.Refusal.{Refusal}
 use Rattle.table.specs.Values.{refuse}
-use Rattle.table.specs.Format.{readFault}
+use Rattle.reader.specs.Format.{readFault}
 use Rattle.sheet.specs.Sheet.{sheetOf}
 use Rattle.executor.specs.declared.Machine.{Machine}
 use Rattle.executor.specs.declared.Reply.{Reply}

@@ -8,8 +8,8 @@ use lib.ListN.{length, getD, take, replicate}
 use Rattle.lent.specs.Bytes.{get2, get4, le2, le4, zeros}
 use Rattle.table.specs.declared.Table.{Table}
 use Rattle.table.specs.Values.{blankTable}
-use Rattle.table.specs.Format.{recordStart, readFault, tableAt}
-use Rattle.table.specs.Written.{words, written}
+use Rattle.reader.specs.Format.{recordStart, readFault, tableAt}
+use Rattle.reader.specs.Written.{words, written}
 use Rattle.executor.specs.declared.Machine.{Machine}
 use Rattle.executor.specs.State.{fresh, faulty}
 use Rattle.cuorfelt.specs.declared.Unpacked.{Unpacked}

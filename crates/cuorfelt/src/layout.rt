@@ -20,7 +20,7 @@ ghost use Prim.Native.Nat.{ℕ, _≤_};
 ghost use lib.ListN.{length};
 ghost use Rattle.lent.specs.Bytes.{zeros};
 ghost use Rattle.lent.specs.Over.{over};
-ghost use Rattle.table.specs.Written.{words};
+ghost use Rattle.reader.specs.Written.{words};
 ghost use Rattle.cuorfelt.specs.Layout.{stateLength, waitingStart, finishedStart, spareStart, spareBytes, get2s, get4s, longs, unpackedWith, notLaid, unpacking, packedTail};
 
 // The sixteen waiting counts.
@@ -165,7 +165,7 @@ pub fn unpack(state: &[u8]) -> Unpacked
     if !lent::all_zero(state, SPARE_START, STATE_LENGTH) {
         return no_state();
     }
-    let reading = table::reader::read(&state[0..end]);
+    let reading = reader::read(&state[0..end]);
     let r = reading.refusal;
     if r.number != 0 {
         return no_state();

@@ -71,7 +71,7 @@ pub extern "C" fn cuorfelt_state_length() -> usize
 pub extern "C" fn cuorfelt_read(table: &[u8]) -> Refused
     ensures { λ r. ⌜ r ≡ readSaid (now (table .entry)) ⌝ }
 {
-    let reading = table::reader::read(table);
+    let reading = reader::read(table);
     let why = reading.refusal;
     refusal(why)
 }

@@ -19,7 +19,7 @@ use Rattle.table.specs.declared.Refusal.{Refusal}
 use Rattle.table.specs.declared.Table.{Table}
 use Rattle.table.specs.Numbers.{places, timer}
 use Rattle.table.specs.Values.{callbackAt, kindOf}
-use Rattle.table.specs.Rules.{within, faultOf}
+use Rattle.reader.specs.Rules.{within, faultOf}
 use Rattle.executor.specs.declared.Machine.{Machine}
 use Rattle.executor.specs.State.{waitingOf, finishedAt, runs, isPolled, beyondFault, countFault, isBlank, cacheFault, slotFault, runFault, tableFault, faulty}
 use Rattle.executor.specs.Work.{beyondWrong, countWrong, cacheWrong, slotWrong, runWrong, isSpare, spareFault, stateFault}

@@ -16,8 +16,8 @@ use Rattle.table.specs.declared.Callback.{Callback}
 use Rattle.table.specs.declared.Table.{Table}
 use Rattle.table.specs.Numbers.{places}
 use Rattle.table.specs.Values.{callbackAt, nextOf}
-use Rattle.table.specs.Rules.{within, faultOf}
-use Rattle.table.proofs.Sound.{Sound, sound}
+use Rattle.reader.specs.Rules.{within, faultOf}
+use Rattle.reader.proofs.Sound.{Sound, sound}
 use Rattle.executor.specs.declared.Machine.{Machine}
 use Rattle.executor.specs.Numbers.{mostTicks, mostWaiting, largestCost}
 use Rattle.executor.specs.State.{waitingOf, finishedAt, runs, isBlank, tableFault, beyondFault, countFault, cacheFault, slotFault, runFault}

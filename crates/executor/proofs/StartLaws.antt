@@ -4,11 +4,11 @@ use mathlib.Core.Logic.{_≢_}
 use mathlib.Core.Bool.{Bool, true}
 use mathlib.Core.List.{List}
 use Prim.Native.Nat.{ℕ}
-use Rattle.table.specs.declared.Reading.{Reading}
+use Rattle.reader.specs.declared.Reading.{Reading}
 use Rattle.table.specs.Values.{refuse, blankTable}
-use Rattle.table.specs.Rules.{faultWith}
-use Rattle.table.specs.Format.{readFault}
-use Rattle.table.proofs.Accepted.{read-refused}
+use Rattle.reader.specs.Rules.{faultWith}
+use Rattle.reader.specs.Format.{readFault}
+use Rattle.reader.proofs.Accepted.{read-refused}
 use Rattle.executor.specs.declared.Machine.{Machine}
 use Rattle.executor.specs.Numbers.{faultyState}
 use Rattle.executor.specs.State.{fresh, tableFault, faulty}

@@ -10,8 +10,8 @@ use lib.Dec.{leb}
 use borrow.Author.Tests.{eq-eqb, ne-eqb, le-leb, lt-leb}
 use Rattle.table.specs.declared.Refusal.{Refusal}
 use Rattle.table.specs.Values.{refuse, accepted}
-use Rattle.table.specs.Rules.{within, lowestRefused}
-use Rattle.table.proofs.RulesLaws.{lowest-refused, lowest-passed}
+use Rattle.reader.specs.Rules.{within, lowestRefused}
+use Rattle.reader.proofs.RulesLaws.{lowest-refused, lowest-passed}
 use Rattle.executor.specs.declared.Machine.{Machine}
 use Rattle.executor.specs.Numbers
 use Rattle.executor.specs.State.{faulty}

@@ -1,7 +1,7 @@
 -- "A machine is started from a table's bytes and refuses them as the reader does, with 1 to 14."
 use mathlib.Core.List.{List}
 use Prim.Native.Nat.{ℕ}
-use Rattle.table.specs.Format.{readOf}
+use Rattle.reader.specs.Format.{readOf}
 use Rattle.executor.specs.declared.Started.{Started}
 use Rattle.executor.specs.State.{fresh}
 

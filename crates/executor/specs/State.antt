@@ -11,7 +11,7 @@ use Rattle.table.specs.declared.Table.{Table}
 use Rattle.table.specs.Numbers.{places, entryPlaces}
 use Rattle.table.specs.Values.{callbackAt}
 use Rattle.table.specs.Priority.{isTimer}
-use Rattle.table.specs.Rules.{faultOf, within}
+use Rattle.reader.specs.Rules.{faultOf, within}
 use Rattle.executor.specs.declared.Machine.{Machine}
 use Rattle.executor.specs.Numbers.{mostWaiting, largestCost}
 

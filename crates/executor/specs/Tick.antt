@@ -9,7 +9,7 @@ use Rattle.table.specs.declared.Table.{Table}
 use Rattle.table.specs.Numbers.{places}
 use Rattle.table.specs.Values.{refuse, accepted, nextOf}
 use Rattle.table.specs.Links.{isHead}
-use Rattle.table.specs.Rules.{within, lowestRefused}
+use Rattle.reader.specs.Rules.{within, lowestRefused}
 use Rattle.executor.specs.declared.Machine.{Machine}
 use Rattle.executor.specs.declared.Reply.{Reply}
 use Rattle.executor.specs.declared.Reply.the-variants.{Refused}

@@ -11,7 +11,7 @@ use Rattle.table.specs.declared.Callback.{Callback}
 use Rattle.table.specs.declared.Kinds.{Kinds}
 use Rattle.table.specs.Numbers.{places, entryPlaces}
 use Rattle.table.specs.Priority.{foremostIn}
-use Rattle.table.specs.Rules.{within}
+use Rattle.reader.specs.Rules.{within}
 use Rattle.table.specs.declared.Table.{Table}
 use Rattle.table.specs.Values.{callbackAt, nextOf}
 use Rattle.executor.specs.declared.Answer.the-variants.{Idle}

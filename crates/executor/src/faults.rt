@@ -140,7 +140,7 @@ fn spare_fault(t: Table) -> bool
 pub(crate) fn table_fault(t: Table) -> bool
     ensures { λ r. ⌜ r ≡ tableFault t ⌝ }
 {
-    let r = table::rules::fault(t);
+    let r = reader::rules::fault(t);
     if r.number != 0 {
         return true;
     }

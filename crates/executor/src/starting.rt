@@ -27,7 +27,7 @@ impl Machine {
     pub fn start(bytes: &[u8]) -> Started
         ensures { λ r. ⌜ r ≡ startOf (now (bytes .entry)) ⌝ }
     {
-        let reading = table::reader::read(bytes);
+        let reading = reader::read(bytes);
         let t = reading.table;
         let refusal = reading.refusal;
         let machine = fresh(t);

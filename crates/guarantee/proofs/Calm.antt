@@ -26,8 +26,8 @@ use Rattle.table.specs.declared.Table.{Table}
 use Rattle.table.specs.Numbers.{places}
 use Rattle.table.specs.Values.{nextOf}
 use Rattle.table.specs.Links.{linked, isHead, headOf}
-use Rattle.table.proofs.Sound.{Sound}
-use Rattle.table.proofs.Heads.{head-unfed, head-lt, head-self, head-is-head, rank-up}
+use Rattle.reader.proofs.Sound.{Sound}
+use Rattle.reader.proofs.Heads.{head-unfed, head-lt, head-self, head-is-head, rank-up}
 use Rattle.busy_window.specs.Counts.{Counts, Quiet, Busy}
 use Rattle.busy_window.specs.Run.{Run}
 use Rattle.busy_window.specs.Within.{Within}

@@ -20,7 +20,7 @@ use Rattle.table.specs.declared.Table.{Table}
 use Rattle.table.specs.Numbers.{timer, client}
 use Rattle.table.specs.Values.{kindOf}
 use Rattle.table.specs.Priority.{foremostFrom, foremost}
-use Rattle.table.proofs.Sound.{Sound}
+use Rattle.reader.proofs.Sound.{Sound}
 use Rattle.executor.specs.declared.Choice.{Choice}
 use Rattle.executor.specs.State.{isPolled}
 use Rattle.executor.specs.Effect.{waits, choice, gatheredOf, pollingPoint, choose}

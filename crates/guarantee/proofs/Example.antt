@@ -21,8 +21,8 @@ use Rattle.curves.specs.Supply.{supply}
 use Rattle.curves.specs.Demand.{limit}
 use Rattle.table.specs.Links.{linked, named, isHead, feeder, headFrom, headOf, onLoop}
 use Rattle.table.specs.Priority.{foremostFrom}
-use Rattle.table.specs.Rules.{supplyFault, costFault, unusedFault, recordFault, recordsFrom, arrivalsFault, linksFault, faultWith}
-use Rattle.table.specs.Format.{recordAt, spareAt, recordsTo, tableAt, sparesAt, readFault, readOf}
+use Rattle.reader.specs.Rules.{supplyFault, costFault, unusedFault, recordFault, recordsFrom, arrivalsFault, linksFault, faultWith}
+use Rattle.reader.specs.Format.{recordAt, spareAt, recordsTo, tableAt, sparesAt, readFault, readOf}
 use Rattle.table.specs.Values.{horizonOf}
 use Rattle.executor.specs.State.{fresh, isPolled, isBlank, tableFault, beyondFault, countFault, cacheFault, slotFault, runFault, faulty}
 use Rattle.executor.specs.Effect.{arrivedTo, arrived, activated, gatheredOf, choose, finishes, continues, worked, begun, served, effect}

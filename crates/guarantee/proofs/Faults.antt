@@ -13,7 +13,7 @@ use Rattle.masks.specs.Mask.{has}
 use Rattle.curves.proofs.EveryLaws.{some-none}
 use Rattle.table.specs.declared.Table.{Table}
 use Rattle.table.specs.Numbers.{places}
-use Rattle.table.specs.Rules.{within}
+use Rattle.reader.specs.Rules.{within}
 use Rattle.executor.specs.declared.Machine.{Machine}
 use Rattle.executor.specs.Numbers.{mostTicks, mostWaiting, largestCost}
 use Rattle.executor.specs.State.{isPolled, waitingOf, finishedAt, runs, tableFault, beyondFault, countFault, cacheFault, slotFault, runFault, faulty}

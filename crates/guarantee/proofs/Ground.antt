@@ -18,10 +18,10 @@ use Rattle.table.specs.declared.Table.{Table}
 use Rattle.table.specs.Numbers.{places}
 use Rattle.table.specs.Values.{blank, callbackAt, horizonOf}
 use Rattle.table.specs.Links.{linked, isHead, headOf}
-use Rattle.table.specs.Format.{tableAt, readFault}
-use Rattle.table.proofs.Sound.{Sound}
-use Rattle.table.proofs.Heads.{fed-once, top, down, head-is-head}
-use Rattle.table.proofs.Accepted.{read-accepted, read-sound, read-blank, read-count}
+use Rattle.reader.specs.Format.{tableAt, readFault}
+use Rattle.reader.proofs.Sound.{Sound}
+use Rattle.reader.proofs.Heads.{fed-once, top, down, head-is-head}
+use Rattle.reader.proofs.Accepted.{read-accepted, read-sound, read-blank, read-count}
 use Rattle.busy_window.specs.Bound.{Covers}
 use Rattle.busy_window.specs.Chain.{Chains}
 use Rattle.executor.specs.Numbers.{mostWaiting}

@@ -6,8 +6,8 @@ use mathlib.Core.List.{List}
 use Prim.Native.Nat.{ℕ, _≤_}
 use lib.ListN.{length}
 use Rattle.table.specs.declared.Table.{Table}
-use Rattle.table.specs.Format.{tableAt, readFault}
-use Rattle.table.proofs.Accepted.{read-table}
+use Rattle.reader.specs.Format.{tableAt, readFault}
+use Rattle.reader.proofs.Accepted.{read-table}
 use Rattle.executor.specs.declared.Machine.{Machine}
 use Rattle.executor.specs.Numbers.{mostTicks}
 use Rattle.executor.specs.State.{fresh}

@@ -21,7 +21,7 @@ use Rattle.curves.proofs.EveryLaws.{holds, never-both}
 use Rattle.table.specs.declared.Table.{Table}
 use Rattle.table.specs.Values.{nextOf}
 use Rattle.table.specs.Links.{linked, isHead, headOf}
-use Rattle.table.proofs.Heads.{head-unfed}
+use Rattle.reader.proofs.Heads.{head-unfed}
 use Rattle.busy_window.specs.Bound.{Covers}
 use Rattle.busy_window.specs.Flow.{fed, counts}
 use Rattle.busy_window.proofs.Busy.{late}

@@ -22,7 +22,7 @@ use Rattle.table.specs.declared.Table.{Table}
 use Rattle.table.specs.Numbers.{places}
 use Rattle.table.specs.Values.{nextOf}
 use Rattle.table.specs.Links.{linked}
-use Rattle.table.proofs.Sound.{Sound}
+use Rattle.reader.proofs.Sound.{Sound}
 use Rattle.busy_window.specs.Flow.{fed}
 use Rattle.busy_window.proofs.Chain.{given-no}
 use Rattle.executor.specs.declared.Answer.{Answer}

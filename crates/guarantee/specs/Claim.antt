@@ -9,7 +9,7 @@ use Prim.Native.Nat.{ℕ, suc, _+_, _≤_, _<_}
 use lib.ListN.{length, getD}
 use Rattle.table.specs.declared.Table.{Table}
 use Rattle.table.specs.Links.{headOf}
-use Rattle.table.specs.Format.{tableAt}
+use Rattle.reader.specs.Format.{tableAt}
 use Rattle.executor.specs.declared.Answer.{Answer}
 use Rattle.executor.specs.declared.Reply.the-variants.{Answered}
 use Rattle.executor.specs.Numbers.{mostTicks}

@@ -5,7 +5,7 @@ use mathlib.Core.List.{List, [], _∷_}
 use Prim.Native.Nat.{ℕ}
 use lib.ListN.{length}
 use Rattle.table.specs.declared.Table.{Table}
-use Rattle.table.specs.Format.{tableAt}
+use Rattle.reader.specs.Format.{tableAt}
 use Rattle.executor.specs.declared.Machine.{Machine}
 use Rattle.executor.specs.declared.Reply.{Reply}
 use Rattle.executor.specs.declared.Ticked.{Ticked}

@@ -5,7 +5,7 @@ use mathlib.Core.Path.{_≡_}
 use mathlib.Core.List.{List, [], _∷_}
 use Prim.Native.Nat.{ℕ, _≤_, _<_}
 use lib.ListN.{length, getD}
-use Rattle.table.specs.Format.{tableAt}
+use Rattle.reader.specs.Format.{tableAt}
 use Rattle.executor.specs.Numbers.{mostTicks}
 use Rattle.sheet.specs.Sheet.{analysisFault, rowOf}
 use Rattle.guarantee.specs.History.{Tick, Said}

@@ -11,7 +11,7 @@ const MOST_FRAMES: u32 = 1000000;
 
 // Prints the refusal of a table's bytes.
 fn report(bytes: &[u8]) {
-    let r = table::reader::read(bytes);
+    let r = reader::read(bytes);
     io::print_decimal(STDOUT_FILENO, r.refusal.number as u64);
     io::write_all(STDOUT_FILENO, b" ");
     io::print_decimal(STDOUT_FILENO, r.refusal.index as u64);

@@ -19,10 +19,10 @@ use Rattle.table.specs.declared.Table.{Table}
 use Rattle.table.specs.Numbers.{places}
 use Rattle.table.specs.Values.{refuse, accepted, orElse}
 use Rattle.table.specs.Links.{isHead}
-use Rattle.table.specs.Rules.{lowestRefused}
-use Rattle.table.specs.Format.{tableAt, readFault}
-use Rattle.table.proofs.RulesLaws.{both-passed, lowest-zero}
-use Rattle.table.proofs.Accepted.{read-sound}
+use Rattle.reader.specs.Rules.{lowestRefused}
+use Rattle.reader.specs.Format.{tableAt, readFault}
+use Rattle.reader.proofs.RulesLaws.{both-passed, lowest-zero}
+use Rattle.reader.proofs.Accepted.{read-sound}
 use Rattle.sheet.specs.Sheet.{noWindow, tooMany, shortRow, mostWaiting, arrivalsOf, windowOf, boundOf, tooManyAt, sheetFault, analysisFault, boundsTo, rowOf}
 use Rattle.sheet.proofs.PartLaws.{crowded}
 use Rattle.sheet.proofs.RowLaws.{row-at}

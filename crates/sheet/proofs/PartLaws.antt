@@ -19,7 +19,7 @@ use Rattle.table.specs.declared.Table.{Table}
 use Rattle.table.specs.Numbers.{places}
 use Rattle.table.specs.Values.{callbackAt}
 use Rattle.table.specs.Links.{isHead, headOf}
-use Rattle.table.proofs.Heads.{head-lt}
+use Rattle.reader.proofs.Heads.{head-lt}
 use Rattle.sheet.specs.Sheet.{mostWaiting, arrivalsOf, costOf}
 use Rattle.sheet.specs.Parts.{headArrivals, crowdedBy, workOf, workBut, demandBut, Spaced, Ready}
 use Rattle.sheet.proofs.TableLaws.{head-own, spaced}

@@ -14,8 +14,8 @@ use Rattle.table.specs.declared.Refusal.{Refusal}
 use Rattle.table.specs.declared.Table.{Table}
 use Rattle.table.specs.Numbers.{places}
 use Rattle.table.specs.Values.{refuse, accepted, orElse}
-use Rattle.table.specs.Rules.{lowestRefused}
-use Rattle.table.specs.Format.{tableAt, readFault}
+use Rattle.reader.specs.Rules.{lowestRefused}
+use Rattle.reader.specs.Format.{tableAt, readFault}
 use Rattle.sheet.specs.declared.Sheet.{Sheet}
 use Rattle.sheet.specs.Sheet.{noWindow, tooMany, shortRow, windowOf, tooManyAt, sheetFault, analysisFault, sheetOf, boundsTo, rowOf}
 use Rattle.sheet.specs.Parts.{refusedSheet, tableSheet, tableRow}

@@ -21,8 +21,8 @@ use Rattle.table.specs.declared.Table.{Table}
 use Rattle.table.specs.Numbers.{longest}
 use Rattle.table.specs.Values.{callbackAt, entriesOf, horizonOf}
 use Rattle.table.specs.Links.{isHead, headOf}
-use Rattle.table.proofs.Sound.{Sound}
-use Rattle.table.proofs.Heads.{head-lt, head-self, head-is-head}
+use Rattle.reader.proofs.Sound.{Sound}
+use Rattle.reader.proofs.Heads.{head-lt, head-self, head-is-head}
 use Rattle.sheet.specs.Sheet.{arrivalsOf, costOf}
 use Rattle.sheet.specs.Parts.{Spaced, Costed}
 

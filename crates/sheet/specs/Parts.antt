@@ -16,7 +16,7 @@ use Rattle.table.specs.declared.Table.{Table}
 use Rattle.table.specs.Numbers.{entryPlaces, longest}
 use Rattle.table.specs.Values.{entriesOf, horizonOf}
 use Rattle.table.specs.Links.{headOf}
-use Rattle.table.proofs.Sound.{Sound}
+use Rattle.reader.proofs.Sound.{Sound}
 use Rattle.sheet.specs.declared.Sheet.{Sheet}
 use Rattle.sheet.specs.Window.{covered, finish}
 use Rattle.sheet.specs.Sheet.{mostWaiting, arrivalsOf, costOf, supplyOf, windowOf, sheetFault, boundsTo}

@@ -15,8 +15,8 @@ use Rattle.table.specs.declared.Table.{Table}
 use Rattle.table.specs.Numbers.{places}
 use Rattle.table.specs.Values.{refuse, accepted, orElse, callbackAt, entriesOf, horizonOf}
 use Rattle.table.specs.Links.{isHead, headOf}
-use Rattle.table.specs.Rules.{lowestRefused}
-use Rattle.table.specs.Format.{tableAt, readFault}
+use Rattle.reader.specs.Rules.{lowestRefused}
+use Rattle.reader.specs.Format.{tableAt, readFault}
 use Rattle.sheet.specs.declared.Sheet.{Sheet}
 use Rattle.sheet.specs.Window.{window, bound}
 

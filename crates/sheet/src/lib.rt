@@ -10,7 +10,7 @@ ghost use lib.ListN.{length};
 ghost use Rattle.lent.specs.Over.{over};
 ghost use Rattle.table.specs.Numbers.{places, longest};
 ghost use Rattle.table.specs.Values.{refuse, horizonOf};
-ghost use Rattle.table.proofs.Sound.{Sound};
+ghost use Rattle.reader.proofs.Sound.{Sound};
 ghost use Rattle.sheet.specs.Sheet.{windowOf, boundOf, boundsTo, tooManyAt, sheetOf, rowOf};
 ghost use Rattle.sheet.specs.Parts.{mostWork, headArrivals, workOf, demandBut, crowdedBy, Spaced, Costed, Ready, refusedSheet, tableSheet, tableRow};
 
@@ -235,7 +235,7 @@ pub fn analyse(bytes: &[u8], row: &mut [u16]) -> Sheet
     if row.len() < ROW_PLACES {
         return refused(SHORT_ROW, 0);
     }
-    let reading = table::reader::read(bytes);
+    let reading = reader::read(bytes);
     let fault = reading.refusal;
     if fault.number != 0 {
         return refused(fault.number, fault.index);

@@ -1,17 +1,5 @@
 -- What the functions rest on. NamedLaws: one pass over the records gives the slots named once and twice, and the heads.
--- PriorityLaws: the kinds' masks, and the first in priority. LoopLaws: the callbacks on loops are those that no head reaches. ChainLaws: the way back to a chain's head.
--- RulesLaws: one record's rules, and the records in turn. FaultLaws: the refusals in their order. FormatLaws: the bytes, and the reader.
--- What other crates cite. Passed: what an accepted table has passed. Sound: what holds of every accepted table. Heads: its chains.
--- Accepted: what an accepted reading says of the bytes and of the table. WrittenLaws: the bytes of a table's values and the reader are inverse to each other.
+-- PriorityLaws: the kinds' masks, and the first in priority. ChainLaws: the way back to a chain's head.
 pub mod NamedLaws
 pub mod PriorityLaws
-pub mod LoopLaws
 pub mod ChainLaws
-pub mod RulesLaws
-pub mod FaultLaws
-pub mod FormatLaws
-pub mod Passed
-pub mod Sound
-pub mod Heads
-pub mod Accepted
-pub mod WrittenLaws

@@ -4,7 +4,6 @@ use Prim.Native.Nat.{ℕ, zero, suc}
 use lib.Dec.{eqb, ltb, leb}
 use Rattle.masks.specs.Mask.{has, withBit, gather}
 use Rattle.curves.specs.Sum.{sum, given}
-use Rattle.curves.specs.Every.{every}
 use Rattle.curves.specs.Least.{least, lowest, lowestFrom}
 use Rattle.curves.specs.Walk.{walk}
 use Rattle.table.specs.declared.Names.{Names}
@@ -40,21 +39,6 @@ headOf t i = headFrom t (t .count) i
 -- on a loop: some number of steps from 1 to n along next leads back
 unfoldable pub onLoop : Table → ℕ → Bool
 onLoop t i = not (eqb (least (λ k. eqb (walk (nextOf t) k (suc i)) (suc i)) (t .count) 1) 0)
-
--- no record names a callback beyond n
-unfoldable pub namesKnown : Table → Bool
-namesKnown t = every (t .count) (λ i. leb (nextOf t i) (t .count))
-
--- m with the slots that k steps along next meet, from index x on
-unfoldable pub marks : (ℕ → ℕ) → ℕ → ℕ → ℕ → ℕ
-marks next zero x m = m
-marks next (suc k) zero m = m
-marks next (suc k) (suc i) m = marks next k (next i) (withBit m i)
-
--- the slots that next leads to from those of the mask that lie below f
-unfoldable pub reachedTo : Table → ℕ → ℕ → ℕ
-reachedTo t heads zero = 0
-reachedTo t heads (suc i) = elim (has heads i) [ true ↦ marks (nextOf t) (t .count) (suc i) (reachedTo t heads i) | false ↦ reachedTo t heads i ]
 
 -- the slots that records name: at least once, at least twice
 unfoldable pub namesOf : Table → Names

@@ -1,16 +1,13 @@
-// The callback table of document 01: its values, its reader, and what its links mean.
-// links: who is named, heads, loops. chains: the head of a callback's chain. priority: the callbacks of each kind, and the first of a mask.
-// rules: what is wrong with a table's values (refusals 2 to 14). reader: a table from its bytes (1 to 14).
+// The callback table of document 01: its values, and what its links and kinds mean.
+// links: who is named, heads. chains: the head of a callback's chain. priority: the callbacks of each kind, and the first of a mask.
 
 ghost use mathlib.Core.Path.{_≡_};
-ghost use Rattle.table.specs.Values.{refuse, horizonOf};
+ghost use Rattle.table.specs.Values.{horizonOf};
 
 pub mod chains;
 pub mod links;
 pub mod numbers;
 pub mod priority;
-pub mod reader;
-pub mod rules;
 
 // The number and the callback index that document 01's table of refusals gives; number 0 where nothing is refused.
 pub struct Refusal {
@@ -39,12 +36,6 @@ pub struct Table {
     pub callbacks: [Callback; 16],
 }
 
-// What reading gives: the table, or a refusal beside a blank table.
-pub struct Reading {
-    pub refusal: Refusal,
-    pub table: Table,
-}
-
 // Slots that records name as next: at least once, and at least twice.
 pub struct Names {
     pub once: u16,
@@ -57,16 +48,6 @@ pub struct Kinds {
     pub subscriptions: u16,
     pub services: u16,
     pub clients: u16,
-}
-
-// A refusal with its number and callback index.
-fn refused(number: u8, index: u8) -> Refusal
-    ensures { λ r. ⌜ r ≡ refuse number index ⌝ }
-{
-    Refusal {
-        number: number,
-        index: index,
-    }
 }
 
 // The horizon in ticks: H, or 60,000 where H is 0.

@@ -18,9 +18,9 @@ use Rattle.lent.specs.Over.{over}
 use Rattle.table.specs.Values.{horizonOf}
 use Rattle.table.specs.Links.{linked, named, isHead, feeder, headFrom, headOf, onLoop}
 use Rattle.table.specs.Priority.{foremostFrom}
-use Rattle.table.specs.Rules.{supplyFault, costFault, unusedFault, recordFault, recordsFrom, arrivalsFault, linksFault, faultWith}
-use Rattle.table.specs.Format.{recordAt, spareAt, recordsTo, tableAt, sparesAt, readFault, readOf}
-use Rattle.table.specs.Written.{words, headerBytes, recordBytes, recordsBytes, written}
+use Rattle.reader.specs.Rules.{supplyFault, costFault, unusedFault, recordFault, recordsFrom, arrivalsFault, linksFault, faultWith}
+use Rattle.reader.specs.Format.{recordAt, spareAt, recordsTo, tableAt, sparesAt, readFault, readOf}
+use Rattle.reader.specs.Written.{words, headerBytes, recordBytes, recordsBytes, written}
 use Rattle.sheet.specs.Window.{covered, coveredFor, window, finish, bound}
 use Rattle.sheet.specs.Sheet.{arrivalsOf, costOf, supplyOf, windowOf, boundOf, tooManyAt, sheetFault, analysisFault, sheetOf, boundsTo, rowOf}
 use Rattle.executor.specs.State.{fresh, isPolled, isBlank, tableFault, beyondFault, countFault, cacheFault, slotFault, runFault, faulty}

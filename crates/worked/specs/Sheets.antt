@@ -6,7 +6,7 @@ use lib.ListN.{length, take, replicate}
 use Rattle.table.specs.declared.Callback.{Callback}
 use Rattle.table.specs.declared.Table.{Table}
 use Rattle.table.specs.Numbers.{places, entryPlaces}
-use Rattle.table.specs.Written.{written}
+use Rattle.reader.specs.Written.{written}
 use Rattle.sheet.specs.declared.Sheet.{Sheet}
 use Rattle.sheet.specs.Sheet.{sheetOf, rowOf, arrivalsOf, windowOf}
 

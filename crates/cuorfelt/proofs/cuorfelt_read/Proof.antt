@@ -1,9 +1,9 @@
 -- The reader's refusal.
 use mathlib.Core.Path.{ap, _∙_}
 use denote.Ref.{now}
-use Rattle.table.specs.declared.Reading.{Reading}
+use Rattle.reader.specs.declared.Reading.{Reading}
 use Rattle.cuorfelt.specs.Edge.{refusedBy, readSaid}
-use Rattle.table.proofs.Accepted.{reading-is}
+use Rattle.reader.proofs.Accepted.{reading-is}
 use borrow.Author.Needs.{needs}
 use Rattle.cuorfelt.proofs.cuorfelt_read.Statement.{statement}
 use Rattle.cuorfelt.proofs.cuorfelt_read.Tie as tie

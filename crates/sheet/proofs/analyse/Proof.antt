@@ -3,12 +3,12 @@ use mathlib.Core.Path.{_≡_, sym, ap, subst, _∙_}
 use mathlib.Core.List.{List}
 use Prim.Native.Nat.{ℕ}
 use native.Mathlib.Omega.{arith}
-use Rattle.table.specs.declared.Reading.{Reading}
+use Rattle.reader.specs.declared.Reading.{Reading}
 use Rattle.table.specs.declared.Refusal.{Refusal}
 use Rattle.table.specs.declared.Table.{Table}
-use Rattle.table.specs.Format.{tableAt, readFault}
-use Rattle.table.proofs.Sound.{Sound}
-use Rattle.table.proofs.Accepted.{reading-is, read-table, read-sound}
+use Rattle.reader.specs.Format.{tableAt, readFault}
+use Rattle.reader.proofs.Sound.{Sound}
+use Rattle.reader.proofs.Accepted.{reading-is, read-table, read-sound}
 use Rattle.sheet.specs.Parts.{refusedSheet, tableSheet, tableRow}
 use Rattle.sheet.proofs.RefusalLaws.{short-row, misread, well-read}
 use borrow.Author.Needs.{needs}

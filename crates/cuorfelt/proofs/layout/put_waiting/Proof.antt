@@ -9,7 +9,7 @@ use native.Mathlib.Omega.{arith}
 use borrow.Author.Needs.{needs}
 use Rattle.lent.specs.Bytes.{le2}
 use Rattle.lent.specs.Over.{over}
-use Rattle.table.specs.Written.{words}
+use Rattle.reader.specs.Written.{words}
 use Rattle.cuorfelt.specs.Layout.{waitingStart}
 use Rattle.cuorfelt.proofs.Runs.{two-bytes, all-start, all-step}
 use Rattle.cuorfelt.proofs.layout.put_waiting.Statement.{statement}

@@ -1,6 +1,6 @@
 -- What the reader gives, and the fresh state of its table.
 use mathlib.Core.Path.{ap, _∙_}
-use Rattle.table.specs.declared.Reading.{Reading}
+use Rattle.reader.specs.declared.Reading.{Reading}
 use Rattle.table.specs.declared.Refusal.{Refusal}
 use Rattle.executor.specs.declared.Machine.{Machine}
 use Rattle.executor.specs.declared.Started.{Started}
