@@ -22,11 +22,11 @@ use Rattle.reader.proofs.Accepted.{reading-is, read-table, read-fits, read-few}
 use Rattle.sheet.specs.declared.Sheet.{Sheet}
 use Rattle.sheet.specs.Sheet.{sheetOf}
 use Rattle.executor.specs.declared.Machine.{Machine}
-use Rattle.executor.specs.declared.Reply.{Reply}
+use Rattle.answers.specs.declared.Reply.{Reply}
 use Rattle.executor.specs.declared.Started.{Started}
 use Rattle.executor.specs.declared.Ticked.{Ticked}
-use Rattle.executor.specs.Numbers.{faultyState}
-use Rattle.executor.specs.Reply.{numberOf, callbackOf, instanceOf, refusalOf}
+use Rattle.queues.specs.Numbers.{faultyState}
+use Rattle.answers.specs.Reply.{numberOf, callbackOf, instanceOf, refusalOf}
 use Rattle.executor.specs.State.{fresh}
 use Rattle.executor.specs.Start.{startOf}
 use Rattle.executor.specs.Tick.{tickOf}

@@ -30,15 +30,19 @@ use Rattle.reader.specs.Rules.{within, faultOf}
 use Rattle.reader.specs.Format.{costAt, recordAt, recordStart, tableAt, readFault}
 use Rattle.reader.proofs.Accepted.{records-length, read-few, read-record, read-blank}
 use Rattle.reader.proofs.WrittenLaws.{CallbackFits, TableFits, Writable}
-use Rattle.executor.specs.declared.Choice.{Choice}
+use Rattle.queues.specs.declared.Choice.{Choice}
 use Rattle.executor.specs.declared.Machine.{Machine}
 use Rattle.executor.specs.declared.Ticked.{Ticked}
-use Rattle.executor.specs.Numbers.{mostTicks, mostWaiting, largestCost}
-use Rattle.executor.specs.State.{fresh, isPolled, beyondFault, countFault, cacheFault, slotFault, runFault, tableFault, faulty}
-use Rattle.executor.specs.Effect.{arrived, after, gained, activated, waits, choice, pollingPoint, gatheredOf, choose, instanceAt, finishes, continues, worked, begun, served, effect}
+use Rattle.queues.specs.Numbers.{mostTicks, mostWaiting, largestCost}
+use Rattle.executor.specs.State.{fresh, beyondFault, countFault, cacheFault, slotFault, runFault, faulty}
+use Rattle.queues.specs.Choosing.{isPolled}
+use Rattle.faults.specs.Faults.{tableFault, countWrong, slotWrong}
+use Rattle.queues.specs.Queues.{arrived, gained, activated, waits}
+use Rattle.executor.specs.Effect.{after, instanceAt, finishes, continues, worked, begun, served, effect}
+use Rattle.queues.specs.Choosing.{choice, pollingPoint, gatheredOf, choose}
 use Rattle.executor.specs.Tick.{tickFault, refused, tickOf}
-use Rattle.executor.proofs.FaultLaws.{some-miss}
-use Rattle.executor.proofs.ArrivedLaws.{arrived-length, arrived-at}
+use Rattle.faults.proofs.ValueLaws.{some-miss}
+use Rattle.queues.proofs.ArrivedLaws.{arrived-length, arrived-at}
 use Rattle.cuorfelt.proofs.LayoutLaws.{MachineFits}
 
 -- a list of zeros
@@ -241,7 +245,7 @@ module _ (m : Machine) (f : MachineFits m) (few : m .table .count ≤ places) (s
 module _ (m : Machine) (f : MachineFits m) where
   -- what the faults leave of the counts
   slot-passed : faulty m ≡ false → (i : ℕ) → i < places → (getD (m .waiting) i 0 ≤ mostWaiting) × (getD (m .finished) i 0 ≤ m .clock)
-  unfolding faulty slotFault countFault
+  unfolding faulty slotWrong countWrong
   slot-passed e i l =
       let x = or-fails (tableFault (m .table)) _ e in
       let y = or-fails (runFault m) (some places (slotFault m)) (x .1) in

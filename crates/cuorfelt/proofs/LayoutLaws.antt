@@ -34,8 +34,9 @@ use Rattle.reader.proofs.Sound.{sound}
 use Rattle.reader.proofs.Accepted.{read-fits, read-few, read-accepted, read-blank}
 use Rattle.reader.proofs.WrittenLaws.{past, zeros-past, run, one, TableFits, Writable, written-tableAt, length-written, header-written, tableAt-written, readFault-written}
 use Rattle.executor.specs.declared.Machine.{Machine}
-use Rattle.executor.proofs.FaultLaws.{some-miss}
-use Rattle.executor.specs.State.{fresh, isBlank, tableFault, faulty}
+use Rattle.faults.proofs.ValueLaws.{some-miss}
+use Rattle.executor.specs.State.{fresh, faulty}
+use Rattle.faults.specs.Faults.{isBlank, tableFault}
 use Rattle.cuorfelt.specs.Layout.{stateLength, waitingStart, finishedStart, clockStart, cacheStart, unitsStart, runningStart, spareStart, spareBytes, get2s, get4s, longs, tableEnd, tablePart, laidOut, unpackedWith, unpacked, packedTail, packed}
 use Rattle.cuorfelt.proofs.Runs.{two-bytes, four-bytes, length-all, get-one, gets-all, all-gets}
 

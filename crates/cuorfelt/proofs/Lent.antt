@@ -16,11 +16,11 @@ use Rattle.reader.specs.Rules.{faultOf}
 use Rattle.reader.specs.Format.{readFault, readOf, tableAt}
 use Rattle.reader.proofs.Accepted.{reading-is, read-table, read-accepted}
 use Rattle.reader.proofs.WrittenLaws.{TableFits, Writable}
-use Rattle.executor.specs.declared.Answer.{Answer}
-use Rattle.executor.specs.declared.Answer.the-variants.{NoSupply, Idle, Ran, Finished}
+use Rattle.answers.specs.declared.Answer.{Answer}
+use Rattle.answers.specs.declared.Answer.the-variants.{NoSupply, Idle, Ran, Finished}
 use Rattle.executor.specs.declared.Machine.{Machine}
-use Rattle.executor.specs.declared.Reply.{Reply}
-use Rattle.executor.specs.declared.Reply.the-variants.{Refused, Answered}
+use Rattle.answers.specs.declared.Reply.{Reply}
+use Rattle.answers.specs.declared.Reply.the-variants.{Refused, Answered}
 use Rattle.executor.specs.declared.Ticked.{Ticked}
 use Rattle.executor.specs.State.{fresh}
 use Rattle.executor.specs.Start.{startOf}

@@ -4,11 +4,13 @@ use mathlib.Core.Bool.{Bool, true, false}
 use mathlib.Core.List.{List}
 use Prim.Native.Nat.{ℕ, zero, suc}
 use lib.Dec.{eqb}
-use Rattle.executor.specs.declared.Choice.{Choice}
+use Rattle.queues.specs.declared.Choice.{Choice}
 use Rattle.executor.specs.declared.Machine.{Machine}
 use Rattle.executor.specs.declared.Ticked.{Ticked}
-use Rattle.executor.specs.Reply.{refusalOf}
-use Rattle.executor.specs.Effect.{arrived, finishes, continues, worked, begun, served, effect, choose}
+use Rattle.answers.specs.Reply.{refusalOf}
+use Rattle.queues.specs.Queues.{arrived}
+use Rattle.executor.specs.Effect.{finishes, continues, worked, begun, served, effect}
+use Rattle.queues.specs.Choosing.{choose}
 use Rattle.executor.specs.Tick.{tickFault, refused, tickOf}
 
 module _ (m : Machine) where

@@ -9,10 +9,10 @@ use Rattle.table.specs.Values.{refuse}
 use Rattle.reader.specs.Format.{readFault}
 use Rattle.sheet.specs.Sheet.{sheetOf}
 use Rattle.executor.specs.declared.Machine.{Machine}
-use Rattle.executor.specs.declared.Reply.{Reply}
+use Rattle.answers.specs.declared.Reply.{Reply}
 use Rattle.executor.specs.declared.Ticked.{Ticked}
-use Rattle.executor.specs.Numbers.{faultyState}
-use Rattle.executor.specs.Reply.{numberOf, callbackOf, instanceOf, refusalOf}
+use Rattle.queues.specs.Numbers.{faultyState}
+use Rattle.answers.specs.Reply.{numberOf, callbackOf, instanceOf, refusalOf}
 use Rattle.executor.specs.Start.{startOf}
 use Rattle.executor.specs.Tick.{tickOf}
 use Rattle.cuorfelt.specs.declared.Analysed.{Analysed}

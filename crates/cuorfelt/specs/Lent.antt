@@ -4,10 +4,10 @@ use mathlib.Core.List.{List, [], _∷_}
 use Prim.Native.Nat.{ℕ}
 use lib.Dec.{eqb}
 use Rattle.table.specs.Values.{refuse}
-use Rattle.executor.specs.declared.Answer.the-variants.{NoSupply, Idle, Ran, Finished}
+use Rattle.answers.specs.declared.Answer.the-variants.{NoSupply, Idle, Ran, Finished}
 use Rattle.executor.specs.declared.Machine.{Machine}
-use Rattle.executor.specs.declared.Reply.{Reply}
-use Rattle.executor.specs.declared.Reply.the-variants.{Refused, Answered}
+use Rattle.answers.specs.declared.Reply.{Reply}
+use Rattle.answers.specs.declared.Reply.the-variants.{Refused, Answered}
 use Rattle.executor.specs.declared.Ticked.{Ticked}
 use Rattle.executor.specs.Tick.{tickOf}
 use Rattle.cuorfelt.specs.declared.Said.{Said}

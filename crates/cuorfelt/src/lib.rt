@@ -108,7 +108,7 @@ pub extern "C" fn cuorfelt_start(table: &[u8], state: &mut [u8]) -> Refused
 {
     if state.len() != numbers::STATE_LENGTH {
         return Refused {
-            number: executor::numbers::FAULTY_STATE,
+            number: queues::numbers::FAULTY_STATE,
             index: 0,
         };
     }
@@ -124,7 +124,7 @@ pub extern "C" fn cuorfelt_start(table: &[u8], state: &mut [u8]) -> Refused
 }
 
 // A reply as a host sees it, with what stands beside it.
-fn said_of(reply: executor::Reply, started: bool, polled: bool, gathered: u8) -> Said
+fn said_of(reply: answers::Reply, started: bool, polled: bool, gathered: u8) -> Said
     ensures { λ r. ⌜ r ≡ saidOf reply started polled gathered ⌝ }
 {
     let r = reply.refusal();
@@ -146,7 +146,7 @@ fn no_state() -> Said
 {
     Said {
         instance: 0,
-        number: executor::numbers::FAULTY_STATE,
+        number: queues::numbers::FAULTY_STATE,
         index: 0,
         answer: 0,
         callback: 0,

@@ -18,16 +18,19 @@ use Rattle.table.specs.declared.Kinds as masked
 use Rattle.table.specs.declared.Table.{Table}
 use Rattle.table.specs.Numbers.{places}
 use Rattle.table.specs.Priority.{kindsOf}
-use Rattle.executor.specs.declared.Answer.the-variants.{NoSupply}
-use Rattle.executor.specs.declared.Choice.{Choice}
+use Rattle.answers.specs.declared.Answer.the-variants.{NoSupply}
+use Rattle.queues.specs.declared.Choice.{Choice}
 use Rattle.executor.specs.declared.Machine.{Machine}
-use Rattle.executor.specs.Numbers.{mostWaiting}
+use Rattle.queues.specs.Numbers.{mostWaiting}
 use Rattle.executor.specs.State.{waitingOf}
 use Rattle.executor.specs.Effect
-use Rattle.executor.specs.Effect.{arrived, waits, choice, choose, finishes, continues, worked, begun, served, effect, after, answered}
-use Rattle.executor.specs.Work.{slotOf, workedBy, idled, Workable, Ready, chooseIn, withWaiting}
-use Rattle.executor.proofs.ArrivedLaws.{arrived-at}
-use Rattle.executor.proofs.ChooseLaws.{choose-law, chosen-waits}
+use Rattle.queues.specs.Queues.{arrived, waits}
+use Rattle.queues.specs.Choosing.{choice, choose}
+use Rattle.executor.specs.Effect.{finishes, continues, worked, begun, served, effect, after, answered}
+use Rattle.executor.specs.Work.{slotOf, workedBy, idled, Workable, Ready, withWaiting}
+use Rattle.queues.specs.Choosing.{chooseIn}
+use Rattle.queues.proofs.ArrivedLaws.{arrived-at}
+use Rattle.queues.proofs.ChooseLaws.{choose-law, chosen-waits}
 
 -- ---- who can work
 

@@ -1,8 +1,5 @@
 -- The faults of number 29, test by test. Assumes nothing.
--- slot-law: the faults of a slot, over its values. run-law: likewise of what runs. cached-only, running-only: what is left of the tests of the cache.
--- none-within, some-within: a number that lies in 1 to h.
--- some-miss: where none passes. spare-start, spare-hit, spare-more, spare-end: the places beyond n, one after the other.
--- table-refused, table-read: the table. faulty-table, faulty-state, faulty-by: the table, and the state around it.
+-- faulty-table, faulty-state, faulty-by: the table, and the state around it.
 -- slot-is, state-run, state-slot, state-right: what runs, and the slots, one after the other.
 use mathlib.Core.Path.{_≡_, refl, sym, ap, ap₂, _∙_}
 use mathlib.Core.Logic.{_≢_}
@@ -21,69 +18,12 @@ use Rattle.table.specs.Numbers.{places, timer}
 use Rattle.table.specs.Values.{callbackAt, kindOf}
 use Rattle.reader.specs.Rules.{within, faultOf}
 use Rattle.executor.specs.declared.Machine.{Machine}
-use Rattle.executor.specs.State.{waitingOf, finishedAt, runs, isPolled, beyondFault, countFault, isBlank, cacheFault, slotFault, runFault, tableFault, faulty}
-use Rattle.executor.specs.Work.{beyondWrong, countWrong, cacheWrong, slotWrong, runWrong, isSpare, spareFault, stateFault}
-
-pub slot-law : (m : Machine) (i : ℕ)
-    → slotFault m i ≡ slotWrong (leb (m .table .count) i) (has (m .cache) i) (runs m i) (isPolled (m .table) i) (waitingOf m i) (finishedAt m i) (m .clock)
-unfolding slotFault slotWrong beyondFault beyondWrong countFault countWrong cacheFault cacheWrong
-slot-law m i = refl
-
-pub run-law : (m : Machine) → runFault m ≡ runWrong (m .table .count) (m .running) (m .units)
-unfolding runFault runWrong
-run-law m = refl
-
--- where a slot that waits is cached, only a timer is at fault
-pub cached-only : (runs polled : Bool) → not polled ≡ (not polled || (runs && (polled && false)))
-cached-only true true = refl
-cached-only true false = refl
-cached-only false true = refl
-cached-only false false = refl
-
--- where it runs and is not cached, only a non-timer is
-pub running-only : (polled : Bool) → polled ≡ (polled && true)
-running-only true = refl
-running-only false = refl
-
--- 1 to h, where x is 0 and where it is not
-pub none-within : (h x : ℕ) → x ≡ 0 → within 1 h x ≡ false
-none-within h x e = ap (within 1 h) e
-
-pub some-within : (h x : ℕ) → x ≢ 0 → ltb h x ≡ not (within 1 h x)
-some-within h x n = rw (le-leb 1 x (omega arith)) (go (ltb h x) refl)
-  where
-    go : (b : Bool) → ltb h x ≡ b → b ≡ not (leb x h)
-    go true e = sym (ap not (lt-leb x h (ltb-true h x e)))
-    go false e = sym (ap not (le-leb x h (ltb-false h x e)))
-
--- where none passes, each fails
-pub some-miss : (p : ℕ → Bool) (n i : ℕ) → some n p ≡ false → i < n → p i ≡ false
-some-miss p n i e l = go (p i) refl
-  where
-    go : (b : Bool) → p i ≡ b → b ≡ false
-    go true f = absurd (never-both (some n p) (some-hit p n i l f) e)
-    go false f = refl
-
-pub some-fewer : (p : ℕ → Bool) (n i : ℕ) → some i p ≡ false → n ≤ i → some n p ≡ false
-some-fewer p n i e l = some-none p n (λ j h. some-miss p i j e (omega arith))
-
-module _ (t : Table) where
-  pub spare-start : some (t .count) (isSpare t) ≡ false
-  spare-start = some-none (isSpare t) (t .count) (λ i l. ap (λ (b : Bool). b && not (isBlank (callbackAt t i))) (lt-leb (t .count) i l))
-
-  spare-is : (i : ℕ) (b : Bool) → t .count ≤ i → isBlank (callbackAt t i) ≡ b → isSpare t i ≡ not b
-  spare-is i b l e = ap₂ (λ (x y : Bool). x && not y) (le-leb (t .count) i l) e
-
-  pub spare-hit : (i : ℕ) → i < places → t .count ≤ i → isBlank (callbackAt t i) ≡ false → true ≡ spareFault t
-  unfolding spareFault
-  spare-hit i h l e = sym (some-hit (isSpare t) places i h (spare-is i false l e))
-
-  pub spare-more : (i : ℕ) → t .count ≤ i → some i (isSpare t) ≡ false → isBlank (callbackAt t i) ≡ true → some (i + 1) (isSpare t) ≡ false
-  spare-more i l f e = some-more (isSpare t) i f (spare-is i true l e)
-
-  pub spare-end : (i : ℕ) → places ≤ i → some i (isSpare t) ≡ false → false ≡ spareFault t
-  unfolding spareFault
-  spare-end i l f = sym (some-fewer (isSpare t) places i f l)
+use Rattle.executor.specs.State.{waitingOf, finishedAt, runs, beyondFault, countFault, cacheFault, slotFault, runFault, faulty}
+use Rattle.queues.specs.Choosing.{isPolled}
+use Rattle.faults.specs.Faults.{tableFault, slotWrong, runWrong}
+use Rattle.faults.specs.Faults.{tableFault, slotWrong, runWrong}
+use Rattle.executor.specs.Work.{stateFault}
+use Rattle.faults.proofs.ValueLaws.{some-fewer}
 
 module _ (m : Machine) where
   -- what the code finds in a slot
@@ -91,11 +31,11 @@ module _ (m : Machine) where
       → b ≡ slotWrong (leb (m .table .count) i) cached (eqb (m .running) (i + 1)) (not (eqb (kindOf (m .table) i) timer)) (waitingOf m i) (finishedAt m i) (m .clock)
       → slotFault m i ≡ b
   unfolding isPolled
-  slot-is i cached b e f = slot-law m i ∙ rw (← e, ← add-one) (sym f)
+  slot-is i cached b e f = rw (← e, ← add-one) (sym f)
 
   pub state-run : (b : Bool) → b ≡ runWrong (m .table .count) (m .running) (m .units) → b ≡ true → true ≡ stateFault m
   unfolding stateFault
-  state-run b e f = rw (run-law m, ← e, f)
+  state-run b e f = rw (← e, f)
 
   pub state-slot : (i : ℕ) → i < places → slotFault m i ≡ true → true ≡ stateFault m
   unfolding stateFault
@@ -103,18 +43,7 @@ module _ (m : Machine) where
 
   pub state-right : (b : Bool) → b ≡ runWrong (m .table .count) (m .running) (m .units) → b ≡ false → (i : ℕ) → places ≤ i → some i (slotFault m) ≡ false → false ≡ stateFault m
   unfolding stateFault
-  state-right b e f i l g = rw (run-law m, ← e, f, some-fewer (slotFault m) places i g l)
-
--- ---- the table, and all of it
-
-module _ (t : Table) (r : Refusal) (e : r ≡ faultOf t) where
-  pub table-refused : r .number ≢ 0 → true ≡ tableFault t
-  unfolding tableFault
-  table-refused h = rw (ne-eqb ((faultOf t) .number) 0 (λ z. h (ap (λ (x : Refusal). x .number) e ∙ z)))
-
-  pub table-read : r .number ≡ 0 → spareFault t ≡ tableFault t
-  unfolding tableFault spareFault
-  table-read z = rw (eq-eqb ((faultOf t) .number) 0 (ap (λ (x : Refusal). x .number) (sym e) ∙ z))
+  state-right b e f i l g = rw (← e, f, some-fewer (slotFault m) places i g l)
 
 module _ (m : Machine) (b : Bool) (e : b ≡ tableFault (m .table)) where
   pub faulty-table : b ≡ true → true ≡ faulty m

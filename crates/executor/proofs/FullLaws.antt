@@ -1,7 +1,4 @@
 -- Refusals 20 and 21: the slots of the mask, and the callback that is activated. Assumes nothing.
---   lowest-is                                        the lowest slot that passes, from the slot
---   full-hit, full-miss, full-end                    a mask's slots one after the other
---   full-alone, full-one                             with the callback that is activated
 --   next-none, next-some, next-le                    who is activated
 --   foreign-law                                      a bit that belongs to no head
 --   chosen-below, finished-le, activated-le          whoever finishes, or is activated, is one of the table's
@@ -30,92 +27,22 @@ use Rattle.table.specs.Values.{nextOf}
 use Rattle.table.specs.Links.{isHead}
 use Rattle.table.specs.Priority.{foremost, firstIndex}
 use Rattle.table.proofs.PriorityLaws.{first-lowest}
-use Rattle.executor.specs.declared.Answer.the-variants.{Idle}
-use Rattle.executor.specs.declared.Choice.{Choice}
+use Rattle.answers.specs.declared.Answer.the-variants.{Idle}
+use Rattle.queues.specs.declared.Choice.{Choice}
 use Rattle.executor.specs.declared.Machine.{Machine}
 use Rattle.executor.specs.declared.Ticked.{Ticked}
-use Rattle.executor.specs.Numbers.{mostWaiting}
-use Rattle.executor.specs.Reply.{finishedOf}
-use Rattle.executor.specs.State.{isPolled}
-use Rattle.executor.specs.Effect.{waits, choose, gatheredOf, pollingPoint, finishes, continues, worked, begun, served, arrived, effect, after, answered}
+use Rattle.queues.specs.Numbers.{mostWaiting}
+use Rattle.answers.specs.Reply.{finishedOf}
+use Rattle.queues.specs.Choosing.{isPolled}
+use Rattle.queues.specs.Queues.{waits, arrived}
+use Rattle.queues.specs.Choosing.{choose, gatheredOf, pollingPoint}
+use Rattle.executor.specs.Effect.{finishes, continues, worked, begun, served, effect, after, answered}
 use Rattle.executor.specs.Tick.{foreign, nextActivated, full}
 use Rattle.executor.specs.Work.{Ready}
-use Rattle.executor.specs.Admitted.{nextAfter, fullIn, fullWith}
-use Rattle.executor.proofs.SlotLaws.{lowest-set}
-use Rattle.executor.proofs.ChooseLaws.{foremost-hit, chosenOf}
-
--- ---- the lowest slot that passes
-
-pub lowest-is : (p : ℕ → Bool) (n i : ℕ) → i < n → p i ≡ true → ((j : ℕ) → j < i → p j ≡ false) → lowest p n ≡ suc i
-lowest-is p n i l e none = lowest-least p n 0 ∙ least-is (byIndex p) n 1 (suc i) found
-  where
-    before : (x : ℕ) → 1 ≤ x → x < suc i → T (not (byIndex p x))
-    before zero a b = absurd (omega arith)
-    before (suc j) a b = T-fails (p j) (none j (omega arith))
-
-    found : First (byIndex p) n 1 (suc i)
-    found = record { from = omega arith; below = omega arith; passes = T-holds (p i) e; none-before = before }
-
-pub lowest-never : (n : ℕ) → lowest (λ _. false) n ≡ 0
-lowest-never n = go (lowest (λ _. false) n) refl
-  where
-    go : (r : ℕ) → lowest (λ _. false) n ≡ r → r ≡ 0
-    go zero e = refl
-    go (suc i) e = absurd (lowest-hit (λ _. false) n i e .1)
-
--- ---- the slots of a mask that are full
-
-module _ (ws : List ℕ) (m r : ℕ) (first : (r ≡ firstOf m) × (r < 16)) where
-  pub full-hit : mostWaiting ≤ getD ws r 0 → r + 1 ≡ fullIn ws m
-  unfolding fullIn
-  full-hit h =
-      add-one r
-      ∙ sym (lowest-is (λ j. has m j && leb mostWaiting (getD ws j 0)) places r (first .1)
-      (ap₂ _&&_ (lowest-set m r first) (le-leb mostWaiting (getD ws r 0) h))
-      (λ j l. ap (λ (b : Bool). b && leb mostWaiting (getD ws j 0)) (first-of-below m j (omega arith))))
-
-  pub full-miss : (x : ℕ) → getD ws r 0 < mostWaiting → x ≡ withoutBit m r → fullIn ws x ≡ fullIn ws m
-  unfolding fullIn
-  full-miss x h e = lowest-same _ _ places (λ j l. go j (ℕ-discrete j r))
-    where
-      -- slot r passes neither test
-      not-full : (b : Bool) → (b && leb mostWaiting (getD ws r 0)) ≡ false
-      not-full true = lt-leb mostWaiting (getD ws r 0) h
-      not-full false = refl
-
-      go : (j : ℕ) → Dec (j ≡ r) → (has x j && leb mostWaiting (getD ws j 0)) ≡ (has m j && leb mostWaiting (getD ws j 0))
-      go j (yes q) = rw q (not-full (has x r) ∙ sym (not-full (has m r)))
-      go j (no q) = ap (λ (b : Bool). b && leb mostWaiting (getD ws j 0)) (ap (λ (y : ℕ). has y j) e ∙ has-without-other m r j q)
-
-pub full-end : (ws : List ℕ) (m : ℕ) → m ≡ 0 → 0 ≡ fullIn ws m
-unfolding fullIn
-full-end ws m e =
-    sym (lowest-same _ (λ _. false) places (λ j l. ap (λ (b : Bool). b && leb mostWaiting (getD ws j 0)) (ap (λ (x : ℕ). has x j) e ∙ has-zero j)) ∙ lowest-never places)
-
--- ---- with the callback that is activated
-
-module _ (ws : List ℕ) (mask x : ℕ) where
-  or-false : (b : Bool) → b ≡ (b || false)
-  or-false true = refl
-  or-false false = refl
-
-  pub full-alone : x ≡ 0 → fullIn ws mask ≡ fullWith ws mask x
-  unfolding fullIn fullWith
-  full-alone z =
-      lowest-same _ _ places
-      (λ j l. ap (λ (b : Bool). b && leb mostWaiting (getD ws j 0)) (or-false (has mask j) ∙ ap (λ (b : Bool). has mask j || b) (sym (ne-eqb x (suc j) (λ q. omega arith)))))
-
-  pub full-one : (y : ℕ) → x ≢ 0 → y ≡ withBit mask (x - 1) → fullIn ws y ≡ fullWith ws mask x
-  unfolding fullIn fullWith
-  full-one y h e =
-      lowest-same _ _ places
-      (λ j l.
-      ap (λ (b : Bool). b && leb mostWaiting (getD ws j 0))
-      (ap (λ (z : ℕ). has z j) e ∙ has-with mask (x - 1) j ∙ ap (λ (b : Bool). has mask j || b) (same j (ℕ-discrete j (x - 1)))))
-    where
-      same : (j : ℕ) → Dec (j ≡ x - 1) → eqb j (x - 1) ≡ eqb x (suc j)
-      same j (yes q) = eq-eqb j (x - 1) q ∙ sym (eq-eqb x (suc j) (omega arith))
-      same j (no q) = ne-eqb j (x - 1) q ∙ sym (ne-eqb x (suc j) (λ f. q (omega arith)))
+use Rattle.executor.specs.Admitted.{nextAfter}
+use Rattle.queues.specs.Queues.{fullIn, fullWith}
+use Rattle.queues.proofs.SlotLaws.{lowest-set}
+use Rattle.queues.proofs.ChooseLaws.{foremost-hit, chosenOf}
 
 -- ---- who is activated
 

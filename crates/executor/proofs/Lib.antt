@@ -1,9 +1,6 @@
--- SlotLaws: the slots of a mask, taken one after the other. ArrivedLaws: step 1, slot by slot. ChooseLaws: what step 3 gives.
+-- What the functions rest on.
 -- WorkLaws: step 4 by index. EffectLaws: the steps put together. FaultLaws: the faults of number 29. FullLaws: refusals 20 and 21.
 -- ReadyLaws: what a state without faults gives. TickLaws: the refusals in their order. StartLaws: every tick after a refused start.
-pub mod SlotLaws
-pub mod ArrivedLaws
-pub mod ChooseLaws
 pub mod WorkLaws
 pub mod EffectLaws
 pub mod FaultLaws

@@ -19,10 +19,12 @@ use Rattle.table.specs.Values.{callbackAt, nextOf}
 use Rattle.reader.specs.Rules.{within, faultOf}
 use Rattle.reader.proofs.Sound.{Sound, sound}
 use Rattle.executor.specs.declared.Machine.{Machine}
-use Rattle.executor.specs.Numbers.{mostTicks, mostWaiting, largestCost}
-use Rattle.executor.specs.State.{waitingOf, finishedAt, runs, isBlank, tableFault, beyondFault, countFault, cacheFault, slotFault, runFault}
-use Rattle.executor.specs.Work.{isSpare, Ready, stateFault}
-use Rattle.executor.proofs.FaultLaws.{some-miss}
+use Rattle.queues.specs.Numbers.{mostTicks, mostWaiting, largestCost}
+use Rattle.executor.specs.State.{waitingOf, finishedAt, runs, beyondFault, countFault, cacheFault, slotFault, runFault}
+use Rattle.faults.specs.Faults.{isBlank, tableFault, cacheWrong, countWrong, runWrong, slotWrong}
+use Rattle.faults.specs.Faults.{isSpare}
+use Rattle.executor.specs.Work.{Ready, stateFault}
+use Rattle.faults.proofs.ValueLaws.{some-miss}
 
 -- ---- the table
 
@@ -69,34 +71,34 @@ module _ (m : Machine) (right : stateFault m ≡ false) where
 
   module _ (i : ℕ) (l : i < places) where
     count-right : countFault m i ≡ false
-    unfolding slotFault
+    unfolding slotWrong
     count-right = or-fails (countFault m i) (cacheFault m i) (or-fails (beyondFault m i) (countFault m i || cacheFault m i) slot .1) .0
       where
         slot : slotFault m i ≡ false
         slot = some-miss (slotFault m) places i (halves .1) l
 
     cache-right : cacheFault m i ≡ false
-    unfolding slotFault
+    unfolding slotWrong
     cache-right = or-fails (countFault m i) (cacheFault m i) (or-fails (beyondFault m i) (countFault m i || cacheFault m i) slot .1) .1
       where
         slot : slotFault m i ≡ false
         slot = some-miss (slotFault m) places i (halves .1) l
 
     few-wait : waitingOf m i ≤ mostWaiting
-    unfolding countFault
+    unfolding countWrong
     few-wait = ltb-false mostWaiting (waitingOf m i) (or-fails (ltb mostWaiting (waitingOf m i)) (ltb (m .clock) (finishedAt m i)) count-right .0)
 
     few-finished : finishedAt m i ≤ m .clock
-    unfolding countFault
+    unfolding countWrong
     few-finished = ltb-false (m .clock) (finishedAt m i) (or-fails (ltb mostWaiting (waitingOf m i)) (ltb (m .clock) (finishedAt m i)) count-right .1)
 
     waits : (has (m .cache) i || runs m i) ≡ true → 0 < waitingOf m i
-    unfolding cacheFault
+    unfolding cacheWrong
     waits h = positive (waitingOf m i) (waits-cached (has (m .cache) i) (runs m i) (eqb (waitingOf m i) 0) _ cache-right h)
 
   module _ (i : ℕ) (run : m .running ≡ suc i) where
     run-parts : (ltb (m .table .count) (m .running) ≡ false) × (cond (eqb (m .running) 0) (not (eqb (m .units) 0)) (not (within 1 largestCost (m .units))) ≡ false)
-    unfolding runFault
+    unfolding runWrong
     run-parts = or-fails (ltb (m .table .count) (m .running)) _ (halves .0)
 
     inside : suc i ≤ m .table .count

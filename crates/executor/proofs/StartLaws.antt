@@ -10,8 +10,9 @@ use Rattle.reader.specs.Rules.{faultWith}
 use Rattle.reader.specs.Format.{readFault}
 use Rattle.reader.proofs.Accepted.{read-refused}
 use Rattle.executor.specs.declared.Machine.{Machine}
-use Rattle.executor.specs.Numbers.{faultyState}
-use Rattle.executor.specs.State.{fresh, tableFault, faulty}
+use Rattle.queues.specs.Numbers.{faultyState}
+use Rattle.executor.specs.State.{fresh, faulty}
+use Rattle.faults.specs.Faults.{tableFault}
 use Rattle.executor.specs.Tick.{refused, tickOf}
 use Rattle.executor.specs.Start.{startOf}
 use Rattle.executor.proofs.TickLaws.{tick-faulty}

@@ -13,7 +13,7 @@ use Rattle.table.specs.Values.{refuse, accepted}
 use Rattle.reader.specs.Rules.{within, lowestRefused}
 use Rattle.reader.proofs.RulesLaws.{lowest-refused, lowest-passed}
 use Rattle.executor.specs.declared.Machine.{Machine}
-use Rattle.executor.specs.Numbers
+use Rattle.queues.specs.Numbers
 use Rattle.executor.specs.State.{faulty}
 use Rattle.executor.specs.Effect.{effect}
 use Rattle.executor.specs.Tick.{foreign, full, tickFault, refused, tickOf}

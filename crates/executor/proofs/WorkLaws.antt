@@ -1,5 +1,5 @@
 -- Step 4 by the index of a callback rather than its slot. Assumes nothing.
--- activated-none, activated-some: the next of a completion gains 1. index-slot: an index from 1 is that of a slot.
+-- index-slot: an index from 1 is that of a slot.
 -- lessened-room: where one leaves a count, each still has room. worked-last, worked-more: a unit is the last or not.
 use mathlib.Core.Path.{_≡_, refl, sym, ap}
 use mathlib.Core.Logic.{_⊎_, inl, inr, _≢_}
@@ -14,21 +14,13 @@ use lib.Seq.{getD-set-same, getD-set-other, set-out}
 use borrow.Author.Tests.{eq-eqb, ne-eqb}
 use Rattle.curves.proofs.SumLaws.{le-or-lt}
 use Rattle.table.specs.Values.{nextOf}
-use Rattle.executor.specs.Numbers.{mostWaiting}
-use Rattle.executor.specs.declared.Choice.{Choice}
+use Rattle.queues.specs.Numbers.{mostWaiting}
+use Rattle.queues.specs.declared.Choice.{Choice}
 use Rattle.executor.specs.declared.Machine.{Machine}
 use Rattle.executor.specs.State.{waitingOf}
-use Rattle.executor.specs.Effect.{gained, activated, finishes, continues, worked}
+use Rattle.queues.specs.Queues.{gained, activated}
+use Rattle.executor.specs.Effect.{finishes, continues, worked}
 use Rattle.executor.specs.Work.{slotOf, Workable}
-
-pub activated-none : (x : ℕ) (ws : List ℕ) → x ≡ 0 → ws ≡ activated x ws
-unfolding activated
-activated-none x ws e = ap (λ (y : ℕ). activated y ws) (sym e)
-
-pub activated-some : (x : ℕ) (ws : List ℕ) → x ≢ 0 → gained (x - 1) ws ≡ activated x ws
-unfolding activated
-activated-some zero ws h = absurd (h refl)
-activated-some (suc j) ws h = ap (λ (i : ℕ). gained i ws) (omega arith)
 
 pub index-slot : (x : ℕ) → 0 < x → suc (x - 1) ≡ x
 index-slot x h = omega arith

@@ -9,31 +9,14 @@ use Rattle.table.specs.declared.Table.{Table}
 use Rattle.table.specs.Numbers.{places}
 use Rattle.table.specs.Values.{nextOf}
 use Rattle.table.specs.Priority.{foremost}
-use Rattle.executor.specs.declared.Answer.{Answer}
-use Rattle.executor.specs.declared.Answer.the-variants.{NoSupply, Idle, Ran, Finished}
-use Rattle.executor.specs.declared.Choice.{Choice}
+use Rattle.answers.specs.declared.Answer.{Answer}
+use Rattle.answers.specs.declared.Answer.the-variants.{NoSupply, Idle, Ran, Finished}
+use Rattle.queues.specs.declared.Choice.{Choice}
 use Rattle.executor.specs.declared.Machine.{Machine}
-use Rattle.executor.specs.declared.Reply.the-variants.{Answered}
+use Rattle.answers.specs.declared.Reply.the-variants.{Answered}
 use Rattle.executor.specs.declared.Ticked.{Ticked}
-use Rattle.executor.specs.State.{isPolled}
-
--- one more waiting for slot i
-abbrev pub gained : ℕ → List ℕ → List ℕ
-gained i ws = set ws i (getD ws i 0 + 1)
-
--- the first k slots of step 1
-unfoldable pub arrivedTo : ℕ → ℕ → List ℕ → List ℕ
-arrivedTo mask zero ws = ws
-arrivedTo mask (suc i) ws = cond (has mask i) (gained i (arrivedTo mask i ws)) (arrivedTo mask i ws)
-
--- step 1: "Heads in the mask gain one waiting instance each."
-unfoldable pub arrived : ℕ → List ℕ → List ℕ
-arrived mask ws = arrivedTo mask places ws
-
--- "activates next": the callback of an index gains one waiting instance; 0 ends the chain
-unfoldable pub activated : ℕ → List ℕ → List ℕ
-activated zero ws = ws
-activated (suc j) ws = gained j ws
+use Rattle.queues.specs.Queues.{arrived, activated}
+use Rattle.queues.specs.Choosing.{choose}
 
 -- the state after a tick: one tick more is taken
 abbrev pub after : Machine → List ℕ → List ℕ → ℕ → ℕ → ℕ → Machine
@@ -43,29 +26,6 @@ after m ws fs c r u =
 -- a tick that is answered
 abbrev pub answered : Machine → Answer → Bool → Bool → ℕ → Ticked
 answered m a started polled gathered = record { machine = m; reply = Answered a; started = started; polled = polled; gathered = gathered }
-
--- whether slot i waits
-abbrev pub waits : List ℕ → ℕ → Bool
-waits ws i = ltb 0 (getD ws i 0)
-
-abbrev pub choice : ℕ → ℕ → Bool → ℕ → Choice
-choice i c polled gathered = record { chosen = i; cache = c; polled = polled; gathered = gathered }
-
--- "the cache takes every non-timer that waits"
-unfoldable pub gatheredOf : Table → List ℕ → ℕ
-gatheredOf t ws = gather (λ i. isPolled t i && waits ws i) (t .count)
-
--- "this is a polling point: the cache takes every non-timer that waits, and the first in it is chosen, if any"
-abbrev pub pollingPoint : Table → ℕ → Choice
-pollingPoint t c = choice (foremost t (has c)) c true (countOf places c)
-
--- step 3: "the first timer in priority that waits is chosen. If none waits, the first callback in the cache. If the cache is empty too, this is a polling point"
-unfoldable pub choose : Table → ℕ → List ℕ → Choice
-choose t c ws =
-    elim (foremost t (λ i. not (isPolled t i) && waits ws i)) [
-      | suc i ↦ choice (suc i) c false 0
-      | zero ↦ elim (foremost t (has c)) [ suc i ↦ choice (suc i) c false 0 | zero ↦ pollingPoint t (gatheredOf t ws) ]
-    ]
 
 -- the instance of slot i that is to run: "Instances count from 1"
 abbrev pub instanceAt : Machine → ℕ → ℕ

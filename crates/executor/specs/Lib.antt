@@ -1,9 +1,7 @@
 -- The machine of document 01, 'One tick of the machine'.
--- Numbers: its limits and refusal numbers. Reply: number and values of each answer. State: the fresh state, and the faults of number 29.
--- Effect: one tick without refusals, steps 1 to 4. Tick: the refusals in their order, and the tick. Start: a machine from a table's bytes.
+-- State: the fresh state, and the faults of number 29. Effect: one tick without refusals, steps 1 to 4.
+-- Tick: the refusals in their order, and the tick. Start: a machine from a table's bytes.
 -- Work, Admitted: what the functions inside a tick ask and give.
-pub mod Numbers
-pub mod Reply
 pub mod State
 pub mod Effect
 pub mod Work

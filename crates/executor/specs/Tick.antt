@@ -11,11 +11,11 @@ use Rattle.table.specs.Values.{refuse, accepted, nextOf}
 use Rattle.table.specs.Links.{isHead}
 use Rattle.reader.specs.Rules.{within, lowestRefused}
 use Rattle.executor.specs.declared.Machine.{Machine}
-use Rattle.executor.specs.declared.Reply.{Reply}
-use Rattle.executor.specs.declared.Reply.the-variants.{Refused}
+use Rattle.answers.specs.declared.Reply.{Reply}
+use Rattle.answers.specs.declared.Reply.the-variants.{Refused}
 use Rattle.executor.specs.declared.Ticked.{Ticked}
-use Rattle.executor.specs.Numbers
-use Rattle.executor.specs.Reply.{finishedOf}
+use Rattle.queues.specs.Numbers
+use Rattle.answers.specs.Reply.{finishedOf}
 use Rattle.executor.specs.State.{faulty, waitingOf}
 use Rattle.executor.specs.Effect.{effect}
 

@@ -14,59 +14,19 @@ use Rattle.table.specs.Priority.{foremostIn}
 use Rattle.reader.specs.Rules.{within}
 use Rattle.table.specs.declared.Table.{Table}
 use Rattle.table.specs.Values.{callbackAt, nextOf}
-use Rattle.executor.specs.declared.Answer.the-variants.{Idle}
-use Rattle.executor.specs.declared.Choice.{Choice}
+use Rattle.answers.specs.declared.Answer.the-variants.{Idle}
+use Rattle.queues.specs.declared.Choice.{Choice}
 use Rattle.executor.specs.declared.Machine.{Machine}
 use Rattle.executor.specs.declared.Ticked.{Ticked}
-use Rattle.executor.specs.Numbers.{mostTicks, mostWaiting, largestCost}
-use Rattle.executor.specs.State.{waitingOf, finishedAt, isBlank, slotFault, runFault}
-use Rattle.executor.specs.Effect.{after, answered, choice, finishes, continues, worked}
-
--- the faults of one slot, over its values: beyond n, its counts, the cache
-unfoldable pub beyondWrong : Bool → Bool → ℕ → ℕ → Bool
-beyondWrong beyond cached w f = beyond && (cached || (ltb 0 w || ltb 0 f))
-
-unfoldable pub countWrong : ℕ → ℕ → ℕ → Bool
-countWrong w f clock = ltb mostWaiting w || ltb clock f
-
-unfoldable pub cacheWrong : Bool → Bool → Bool → ℕ → Bool
-cacheWrong cached running polled w =
-    ((cached || running) && eqb w 0) || ((cached && not polled) || (running && (polled && not cached)))
-
-unfoldable pub slotWrong : Bool → Bool → Bool → Bool → ℕ → ℕ → ℕ → Bool
-slotWrong beyond cached running polled w f clock =
-    beyondWrong beyond cached w f || (countWrong w f clock || cacheWrong cached running polled w)
-
--- the running callback's index and its units left, over n
-unfoldable pub runWrong : ℕ → ℕ → ℕ → Bool
-runWrong n running units = ltb n running || cond (eqb running 0) (not (eqb units 0)) (not (within 1 largestCost units))
-
--- every cost entry of a place is zero
-abbrev pub noEntries : Callback → Bool
-noEntries c = every entryPlaces (λ k. eqb (getD (c .cost) k 0) 0)
+use Rattle.queues.specs.Numbers.{mostTicks, mostWaiting, largestCost}
+use Rattle.executor.specs.State.{waitingOf, finishedAt, slotFault, runFault}
+use Rattle.faults.specs.Faults.{isBlank}
+use Rattle.executor.specs.Effect.{after, answered, finishes, continues, worked}
+use Rattle.queues.specs.Choosing.{choice}
 
 -- the faults of a state other than those of its table
 unfoldable pub stateFault : Machine → Bool
 stateFault m = runFault m || some places (slotFault m)
-
--- a place beyond n that is not blank; one of them
-abbrev pub isSpare : Table → ℕ → Bool
-isSpare t i = leb (t .count) i && not (isBlank (callbackAt t i))
-
-unfoldable pub spareFault : Table → Bool
-spareFault t = some places (isSpare t)
-
--- a polling point in masks: the slots gathered, and the first of them
-abbrev pub pollIn : Kinds → ℕ → Choice
-pollIn k g = choice (foremostIn k g) g true (countOf places g)
-
--- step 3 in masks: the slots of each kind, the cache, and the slots that wait
-unfoldable pub chooseIn : Kinds → ℕ → ℕ → Choice
-chooseIn k c w =
-    elim (foremostIn k (both (k .timers) w)) [
-      | suc i ↦ choice (suc i) c false 0
-      | zero ↦ elim (foremostIn k c) [ suc i ↦ choice (suc i) c false 0 | zero ↦ pollIn k (except w (k .timers)) ]
-    ]
 
 -- the slot of the callback that a choice names
 abbrev pub slotOf : Choice → ℕ

@@ -1,16 +1,16 @@
 // The effect of a tick that nothing refuses: steps 1 to 4 in turn.
 
-use super::Answer;
-use super::Choice;
 use super::Machine;
-use super::Reply;
 use super::Ticked;
-use super::arrivals::arrive;
-use super::choosing::choose;
-use super::choosing::waiting_slots;
+use answers::Answer;
+use answers::Reply;
+use queues::Choice;
+use queues::arrivals::arrive;
+use queues::choosing::choose;
+use queues::choosing::waiting_slots;
 ghost use mathlib.Core.Path.{_≡_};
 ghost use Prim.Native.Nat.{ℕ, _+_, _<_};
-ghost use Rattle.executor.specs.Numbers.{mostTicks, mostWaiting};
+ghost use Rattle.queues.specs.Numbers.{mostTicks, mostWaiting};
 ghost use Rattle.executor.specs.Effect.{served, effect};
 ghost use Rattle.executor.specs.Work.{Ready, idled};
 

@@ -1,19 +1,18 @@
 // One tick: the first refusal that applies, 29, 18, 19, 20, 21, or the effect.
 
 use super::Machine;
-use super::Reply;
 use super::Ticked;
-use super::faults::table_fault;
-use super::numbers::FAULTY_STATE;
-use super::numbers::LARGEST_COST;
-use super::numbers::MOST_TICKS;
-use super::numbers::MOST_WAITING;
-use super::numbers::NOT_A_HEAD;
-use super::numbers::QUEUE_FULL;
-use super::numbers::TICKS_SPENT;
-use super::numbers::WRONG_COST;
-use super::slots::lowest;
-use super::slots::outside;
+use answers::Reply;
+use faults::table_fault;
+use queues::full::full_with;
+use queues::numbers::FAULTY_STATE;
+use queues::numbers::LARGEST_COST;
+use queues::numbers::MOST_TICKS;
+use queues::numbers::NOT_A_HEAD;
+use queues::numbers::QUEUE_FULL;
+use queues::numbers::TICKS_SPENT;
+use queues::numbers::WRONG_COST;
+use queues::slots::outside;
 use table::Refusal;
 use table::Table;
 ghost use mathlib.Core.Path.{_≡_};
@@ -21,11 +20,12 @@ ghost use mathlib.Core.Bool.{false};
 ghost use Prim.Native.Nat.{ℕ, _≤_, _<_};
 ghost use Rattle.table.specs.Numbers.{places};
 ghost use Rattle.table.specs.Values.{refuse};
-ghost use Rattle.executor.specs.Numbers.{mostWaiting};
-ghost use Rattle.executor.specs.State.{tableFault};
+ghost use Rattle.queues.specs.Numbers.{mostWaiting};
+ghost use Rattle.faults.specs.Faults.{tableFault};
 ghost use Rattle.executor.specs.Tick.{foreign, refused, tickOf};
 ghost use Rattle.executor.specs.Work.{Ready};
-ghost use Rattle.executor.specs.Admitted.{nextAfter, fullIn, fullWith, admitted};
+ghost use Rattle.executor.specs.Admitted.{nextAfter, admitted};
+ghost use Rattle.queues.specs.Queues.{fullIn, fullWith};
 
 // The callback that the completion of an index activates; 0 where the index is, and where its chain ends.
 fn next_after(t: Table, index: u8) -> u8
@@ -37,32 +37,6 @@ fn next_after(t: Table, index: u8) -> u8
     }
     let c = t.callbacks[(index - 1) as usize];
     c.next
-}
-
-// The lowest callback of the mask that has 255 waiting; 0 where none has.
-fn first_full(waiting: [u16; 16], mask: u16) -> u8
-    ensures { λ r. ⌜ r ≡ fullIn waiting mask ⌝ }
-{
-    let mut rest = mask;
-    while rest != 0 {
-        let slot = lowest(rest);
-        if waiting[slot as usize] >= MOST_WAITING {
-            return slot as u8 + 1;
-        }
-        rest = masks::clear_slot(rest, slot);
-    }
-    0
-}
-
-// The lowest callback with 255 waiting, of the mask and of the one that is activated; 0 where none has.
-fn full_with(waiting: [u16; 16], mask: u16, next: u8) -> u8
-    requires { ⌜ next ≤ places ⌝ }
-    ensures { λ r. ⌜ r ≡ fullWith waiting mask next ⌝ }
-{
-    if next == 0 {
-        return first_full(waiting, mask);
-    }
-    first_full(waiting, masks::set_slot(mask, (next - 1) as u16))
 }
 
 // The lowest bit of the mask that belongs to no head, plus 1; 0 where there is none.

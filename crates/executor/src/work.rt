@@ -1,31 +1,14 @@
 // Step 4 of a tick: "The running instance loses one unit."
 
-use super::Answer;
-use super::Choice;
 use super::Machine;
-use super::Reply;
 use super::Ticked;
+use answers::Answer;
+use answers::Reply;
+use queues::Choice;
+use queues::arrivals::activate;
 ghost use mathlib.Core.Path.{_≡_};
-ghost use Prim.Native.Nat.{ℕ, _+_, _-_, _≤_, _<_};
-ghost use lib.ListN.{getD};
-ghost use Rattle.table.specs.Numbers.{places};
-ghost use Rattle.executor.specs.Numbers.{mostWaiting};
-ghost use Rattle.executor.specs.Effect.{activated};
+ghost use Prim.Native.Nat.{ℕ, _<_};
 ghost use Rattle.executor.specs.Work.{Workable, finishedBy, continuedBy, workedBy};
-
-// The waiting counts with one more for the callback of the index; index 0 ends the chain.
-fn activate(waiting: [u16; 16], next: u8) -> [u16; 16]
-    requires { ⌜ (next ≤ places) × (getD waiting (next - 1) 0 ≤ mostWaiting + 1) ⌝ }
-    ensures { λ r. ⌜ r ≡ activated next waiting ⌝ }
-{
-    let mut counts = waiting;
-    if next == 0 {
-        return counts;
-    }
-    let i = (next - 1) as usize;
-    counts[i] = counts[i] + 1;
-    counts
-}
 
 impl Machine {
     // The last unit of the instance chosen: it finishes, and activates next.

@@ -37,8 +37,8 @@ use Rattle.busy_window.proofs.Flow.{runs, behind}
 use Rattle.busy_window.proofs.Chain.{given-no, chain-in}
 use Rattle.executor.specs.declared.Machine.{Machine}
 use Rattle.executor.specs.declared.Ticked.{Ticked}
-use Rattle.executor.specs.Numbers.{mostTicks, mostWaiting}
-use Rattle.executor.specs.Reply.{callbackOf, finishedOf}
+use Rattle.queues.specs.Numbers.{mostTicks, mostWaiting}
+use Rattle.answers.specs.Reply.{callbackOf, finishedOf}
 use Rattle.executor.specs.State.{fresh, waitingOf}
 use Rattle.executor.specs.Tick.{foreign, nextActivated, full}
 use Rattle.sheet.specs.Sheet.{arrivalsOf, costOf, supplyOf, windowOf}

@@ -21,9 +21,10 @@ use Rattle.table.specs.Numbers.{timer, client}
 use Rattle.table.specs.Values.{kindOf}
 use Rattle.table.specs.Priority.{foremostFrom, foremost}
 use Rattle.reader.proofs.Sound.{Sound}
-use Rattle.executor.specs.declared.Choice.{Choice}
-use Rattle.executor.specs.State.{isPolled}
-use Rattle.executor.specs.Effect.{waits, choice, gatheredOf, pollingPoint, choose}
+use Rattle.queues.specs.declared.Choice.{Choice}
+use Rattle.queues.specs.Choosing.{isPolled}
+use Rattle.queues.specs.Queues.{waits}
+use Rattle.queues.specs.Choosing.{choice, gatheredOf, pollingPoint, choose}
 
 pub and-both : (a b : Bool) → T (a && b) → T a × T b
 and-both true b t = (tt, t)

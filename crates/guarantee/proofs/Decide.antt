@@ -17,7 +17,7 @@ use Rattle.curves.proofs.EveryLaws.{holds, T-holds, and-holds, every-at, never-
 use Rattle.table.specs.declared.Table.{Table}
 use Rattle.table.specs.Links.{isHead}
 use Rattle.reader.specs.Rules.{within}
-use Rattle.executor.specs.Numbers.{largestCost}
+use Rattle.queues.specs.Numbers.{largestCost}
 use Rattle.sheet.specs.Sheet.{arrivalsOf, costOf, supplyOf}
 use Rattle.guarantee.specs.History.{Tick, Said, tickAt, over-window, activatedAt, startsAt}
 use Rattle.guarantee.specs.Within.{WithinCurves}

@@ -15,8 +15,10 @@ use Rattle.table.specs.declared.Table.{Table}
 use Rattle.table.specs.Numbers.{places}
 use Rattle.reader.specs.Rules.{within}
 use Rattle.executor.specs.declared.Machine.{Machine}
-use Rattle.executor.specs.Numbers.{mostTicks, mostWaiting, largestCost}
-use Rattle.executor.specs.State.{isPolled, waitingOf, finishedAt, runs, tableFault, beyondFault, countFault, cacheFault, slotFault, runFault, faulty}
+use Rattle.queues.specs.Numbers.{mostTicks, mostWaiting, largestCost}
+use Rattle.queues.specs.Choosing.{isPolled}
+use Rattle.executor.specs.State.{waitingOf, finishedAt, runs, beyondFault, countFault, cacheFault, slotFault, runFault, faulty}
+use Rattle.faults.specs.Faults.{tableFault, beyondWrong, cacheWrong, countWrong, runWrong, slotWrong}
 use Rattle.executor.specs.Effect.{effect}
 use Rattle.executor.specs.Tick.{foreign, full, tickFault, refused, tickOf}
 use Rattle.guarantee.proofs.Step.{Valid}
@@ -39,7 +41,7 @@ no-cache-fault false false p z a b c d = refl
 
 module _ (t : Table) (m : Machine) (ok : Valid t m) (small : (i : ℕ) → i < places → waitingOf m i ≤ mostWaiting) where
   beyond-right : (i : ℕ) → i < places → beyondFault m i ≡ false
-  unfolding beyondFault
+  unfolding beyondWrong
   beyond-right i l = go (leb (m .table .count) i) refl
     where
       go : (b : Bool) → leb (m .table .count) i ≡ b → (b && (has (m .cache) i || (ltb 0 (waitingOf m i) || ltb 0 (finishedAt m i)))) ≡ false
@@ -50,11 +52,11 @@ module _ (t : Table) (m : Machine) (ok : Valid t m) (small : (i : ℕ) → i < p
           (ap₂ _||_ (le-ltb 0 (waitingOf m i) (omega (arith, ok .beyond i k l .0))) (le-ltb 0 (finishedAt m i) (omega (arith, ok .beyond i k l .1))))
 
   count-right : (i : ℕ) → i < places → countFault m i ≡ false
-  unfolding countFault
+  unfolding countWrong
   count-right i l = ap₂ _||_ (le-ltb mostWaiting (waitingOf m i) (small i l)) (le-ltb (m .clock) (finishedAt m i) (ok .early i l))
 
   cache-right : (i : ℕ) → cacheFault m i ≡ false
-  unfolding cacheFault
+  unfolding cacheWrong
   cache-right i =
       no-cache-fault (has (m .cache) i) (runs m i) (isPolled (m .table) i) (eqb (waitingOf m i) 0)
       (λ h z. omega (arith, ok .cached i h .1, eqb→eq (waitingOf m i) 0 z))
@@ -66,11 +68,11 @@ module _ (t : Table) (m : Machine) (ok : Valid t m) (small : (i : ℕ) → i < p
       polled-same = ap (λ (x : Table). isPolled x i) (ok .held)
 
   slot-right : (i : ℕ) → i < places → slotFault m i ≡ false
-  unfolding slotFault
+  unfolding slotWrong
   slot-right i l = ap₂ _||_ (beyond-right i l) (ap₂ _||_ (count-right i l) (cache-right i))
 
   run-right : runFault m ≡ false
-  unfolding runFault
+  unfolding runWrong
   run-right = go (m .running) refl
     where
       go : (r : ℕ) → m .running ≡ r → (ltb (m .table .count) (m .running) || cond (eqb (m .running) 0) (not (eqb (m .units) 0)) (not (within 1 largestCost (m .units)))) ≡ false

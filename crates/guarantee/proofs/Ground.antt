@@ -24,8 +24,8 @@ use Rattle.reader.proofs.Heads.{fed-once, top, down, head-is-head}
 use Rattle.reader.proofs.Accepted.{read-accepted, read-sound, read-blank, read-count}
 use Rattle.busy_window.specs.Bound.{Covers}
 use Rattle.busy_window.specs.Chain.{Chains}
-use Rattle.executor.specs.Numbers.{mostWaiting}
-use Rattle.executor.specs.State.{isBlank, tableFault}
+use Rattle.queues.specs.Numbers.{mostWaiting}
+use Rattle.faults.specs.Faults.{isBlank, tableFault}
 use Rattle.sheet.specs.Sheet.{arrivalsOf, costOf, supplyOf, windowOf, boundOf, analysisFault}
 use Rattle.sheet.proofs.WindowLaws.{window-settles, bound-covers}
 use Rattle.sheet.proofs.TableLaws.{sound-rising}

@@ -9,7 +9,7 @@ use Rattle.table.specs.declared.Table.{Table}
 use Rattle.reader.specs.Format.{tableAt, readFault}
 use Rattle.reader.proofs.Accepted.{read-table}
 use Rattle.executor.specs.declared.Machine.{Machine}
-use Rattle.executor.specs.Numbers.{mostTicks}
+use Rattle.queues.specs.Numbers.{mostTicks}
 use Rattle.executor.specs.State.{fresh}
 use Rattle.executor.specs.Start.{startOf}
 use Rattle.sheet.specs.Sheet.{analysisFault, boundOf, rowOf}

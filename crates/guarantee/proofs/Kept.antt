@@ -27,10 +27,10 @@ use Rattle.busy_window.specs.Flow.{fed, counts}
 use Rattle.busy_window.proofs.Busy.{late}
 use Rattle.busy_window.proofs.Flow.{inflow, fed-add, fed-zero}
 use Rattle.busy_window.proofs.Chain.{given-no, fed-none}
-use Rattle.executor.specs.declared.Answer.{Answer}
-use Rattle.executor.specs.declared.Reply.the-variants.{Answered}
-use Rattle.executor.specs.Numbers.{mostTicks}
-use Rattle.executor.specs.Reply.{callbackOf, instanceOf, finishedOf}
+use Rattle.answers.specs.declared.Answer.{Answer}
+use Rattle.answers.specs.declared.Reply.the-variants.{Answered}
+use Rattle.queues.specs.Numbers.{mostTicks}
+use Rattle.answers.specs.Reply.{callbackOf, instanceOf, finishedOf}
 use Rattle.executor.specs.State.{fresh, waitingOf, finishedAt}
 use Rattle.sheet.specs.Sheet.{arrivalsOf, costOf, supplyOf, windowOf}
 use Rattle.sheet.proofs.TableLaws.{sound-rising}

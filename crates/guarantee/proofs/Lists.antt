@@ -25,7 +25,7 @@ use Rattle.table.specs.Values.{nextOf}
 use Rattle.table.specs.Links.{linked}
 use Rattle.busy_window.specs.Flow.{fed}
 use Rattle.busy_window.proofs.Flow.{fed-zero}
-use Rattle.executor.specs.Effect.{arrivedTo, arrived, activated}
+use Rattle.queues.specs.Queues.{arrivedTo, arrived, activated}
 
 -- ---- an index that is that of a slot
 

@@ -25,17 +25,20 @@ use Rattle.table.specs.Links.{linked}
 use Rattle.reader.proofs.Sound.{Sound}
 use Rattle.busy_window.specs.Flow.{fed}
 use Rattle.busy_window.proofs.Chain.{given-no}
-use Rattle.executor.specs.declared.Answer.{Answer}
-use Rattle.executor.specs.declared.Answer.the-variants.{Idle}
-use Rattle.executor.specs.declared.Choice.{Choice}
+use Rattle.answers.specs.declared.Answer.{Answer}
+use Rattle.answers.specs.declared.Answer.the-variants.{Idle}
+use Rattle.queues.specs.declared.Choice.{Choice}
 use Rattle.executor.specs.declared.Machine.{Machine}
-use Rattle.executor.specs.declared.Reply.{Reply}
-use Rattle.executor.specs.declared.Reply.the-variants.{Answered}
+use Rattle.answers.specs.declared.Reply.{Reply}
+use Rattle.answers.specs.declared.Reply.the-variants.{Answered}
 use Rattle.executor.specs.declared.Ticked.{Ticked}
-use Rattle.executor.specs.Numbers.{largestCost}
-use Rattle.executor.specs.Reply.{callbackOf, instanceOf, finishedOf}
-use Rattle.executor.specs.State.{fresh, isPolled, waitingOf, finishedAt}
-use Rattle.executor.specs.Effect.{arrived, activated, after, answered, choose, finishes, continues, worked, begun, served, effect}
+use Rattle.queues.specs.Numbers.{largestCost}
+use Rattle.answers.specs.Reply.{callbackOf, instanceOf, finishedOf}
+use Rattle.executor.specs.State.{fresh, waitingOf, finishedAt}
+use Rattle.queues.specs.Choosing.{isPolled}
+use Rattle.queues.specs.Queues.{arrived, activated}
+use Rattle.executor.specs.Effect.{after, answered, finishes, continues, worked, begun, served, effect}
+use Rattle.queues.specs.Choosing.{choose}
 use Rattle.guarantee.proofs.Lists
 use Rattle.guarantee.proofs.Lists.{hit}
 use Rattle.guarantee.proofs.Choose.{Cached, Chosen, chooses}

@@ -23,8 +23,8 @@ use Rattle.reader.proofs.Sound.{Sound}
 use Rattle.busy_window.specs.Flow.{Events, States, Local}
 use Rattle.executor.specs.declared.Machine.{Machine}
 use Rattle.executor.specs.declared.Ticked.{Ticked}
-use Rattle.executor.specs.Numbers.{largestCost}
-use Rattle.executor.specs.Reply.{callbackOf, finishedOf}
+use Rattle.queues.specs.Numbers.{largestCost}
+use Rattle.answers.specs.Reply.{callbackOf, finishedOf}
 use Rattle.executor.specs.State.{fresh, waitingOf, finishedAt}
 use Rattle.executor.specs.Effect.{effect}
 use Rattle.guarantee.specs.History.{Tick, Said, said, ticked, replies, tickAt, saidAt}

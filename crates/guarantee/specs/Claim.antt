@@ -10,9 +10,9 @@ use lib.ListN.{length, getD}
 use Rattle.table.specs.declared.Table.{Table}
 use Rattle.table.specs.Links.{headOf}
 use Rattle.reader.specs.Format.{tableAt}
-use Rattle.executor.specs.declared.Answer.{Answer}
-use Rattle.executor.specs.declared.Reply.the-variants.{Answered}
-use Rattle.executor.specs.Numbers.{mostTicks}
+use Rattle.answers.specs.declared.Answer.{Answer}
+use Rattle.answers.specs.declared.Reply.the-variants.{Answered}
+use Rattle.queues.specs.Numbers.{mostTicks}
 use Rattle.executor.specs.Start.{startOf}
 use Rattle.sheet.specs.Sheet.{analysisFault, rowOf}
 use Rattle.guarantee.specs.History.{Tick, Said, replies, saidAt, activations, activation, instanceStarts, completion}

@@ -5,8 +5,8 @@ use mathlib.Core.Bool.{true, false}
 use mathlib.Core.List.{List, [], _∷_, _++_}
 use Prim.Native.Nat.{ℕ}
 use lib.ListN.{replicate}
-use Rattle.executor.specs.declared.Answer.the-variants.{NoSupply, Idle, Ran, Finished}
-use Rattle.executor.specs.declared.Reply.the-variants.{Answered}
+use Rattle.answers.specs.declared.Answer.the-variants.{NoSupply, Idle, Ran, Finished}
+use Rattle.answers.specs.declared.Reply.the-variants.{Answered}
 use Rattle.guarantee.specs.History.{Tick, Said}
 
 -- a record of 32 bytes with two entries at most, all numbers below 256

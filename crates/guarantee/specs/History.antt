@@ -10,12 +10,12 @@ use Rattle.masks.specs.Mask.{has}
 use Rattle.curves.specs.Sum.{sum, given}
 use Rattle.table.specs.declared.Table.{Table}
 use Rattle.table.specs.Links.{linked, isHead}
-use Rattle.executor.specs.declared.Answer.the-variants.{NoSupply}
+use Rattle.answers.specs.declared.Answer.the-variants.{NoSupply}
 use Rattle.executor.specs.declared.Machine.{Machine}
-use Rattle.executor.specs.declared.Reply.{Reply}
-use Rattle.executor.specs.declared.Reply.the-variants.{Answered}
+use Rattle.answers.specs.declared.Reply.{Reply}
+use Rattle.answers.specs.declared.Reply.the-variants.{Answered}
 use Rattle.executor.specs.declared.Ticked.{Ticked}
-use Rattle.executor.specs.Reply.{callbackOf, instanceOf, finishedOf}
+use Rattle.answers.specs.Reply.{callbackOf, instanceOf, finishedOf}
 use Rattle.executor.specs.Tick.{tickOf}
 
 -- "A history is a list of ticks, each with its mask, supply and cost."

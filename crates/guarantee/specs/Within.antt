@@ -7,7 +7,7 @@ use Rattle.masks.specs.Mask.{has}
 use Rattle.curves.specs.Sum.{given}
 use Rattle.table.specs.declared.Table.{Table}
 use Rattle.table.specs.Links.{isHead}
-use Rattle.executor.specs.Numbers.{largestCost}
+use Rattle.queues.specs.Numbers.{largestCost}
 use Rattle.sheet.specs.Sheet.{arrivalsOf, costOf, supplyOf}
 use Rattle.guarantee.specs.History.{Tick, Said, tickAt, over-window, activatedAt, startsAt}
 

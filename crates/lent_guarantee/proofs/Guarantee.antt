@@ -7,7 +7,7 @@ use lib.ListN.{length}
 use Rattle.table.specs.declared.Table.{Table}
 use Rattle.reader.specs.Format.{tableAt}
 use Rattle.executor.specs.declared.Machine.{Machine}
-use Rattle.executor.specs.declared.Reply.{Reply}
+use Rattle.answers.specs.declared.Reply.{Reply}
 use Rattle.executor.specs.declared.Ticked.{Ticked}
 use Rattle.executor.specs.Start.{startOf}
 use Rattle.sheet.specs.Sheet.{rowOf}

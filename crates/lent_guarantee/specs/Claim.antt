@@ -6,7 +6,7 @@ use mathlib.Core.List.{List, [], _∷_}
 use Prim.Native.Nat.{ℕ, _≤_, _<_}
 use lib.ListN.{length, getD}
 use Rattle.reader.specs.Format.{tableAt}
-use Rattle.executor.specs.Numbers.{mostTicks}
+use Rattle.queues.specs.Numbers.{mostTicks}
 use Rattle.sheet.specs.Sheet.{analysisFault, rowOf}
 use Rattle.guarantee.specs.History.{Tick, Said}
 use Rattle.guarantee.specs.Within.{WithinCurves}

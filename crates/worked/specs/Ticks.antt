@@ -6,7 +6,7 @@ use Rattle.table.specs.declared.Table.{Table}
 use Rattle.reader.specs.Written.{written}
 use Rattle.executor.specs.declared.Machine.{Machine}
 use Rattle.executor.specs.declared.Ticked.{Ticked}
-use Rattle.executor.specs.Reply.{numberOf, callbackOf, instanceOf}
+use Rattle.answers.specs.Reply.{numberOf, callbackOf, instanceOf}
 use Rattle.executor.specs.Tick.{tickOf}
 use Rattle.executor.specs.Start.{startOf}
 

@@ -1,7 +1,7 @@
 -- Bytes that are laid out as a state are unpacked, ticked and, where nothing is refused, packed behind their table.
 use mathlib.Core.Path.{ap, _∙_}
 use Rattle.executor.specs.declared.Machine.{Machine}
-use Rattle.executor.specs.State.{tableFault}
+use Rattle.faults.specs.Faults.{tableFault}
 use Rattle.cuorfelt.proofs.LayoutLaws.{table-faultless}
 use native.Mathlib.Omega.{arith}
 use borrow.Author.Tests.{not-true, not-false}

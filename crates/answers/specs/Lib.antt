@@ -1,0 +1,2 @@
+-- Reply: number and values of each answer and reply.
+pub mod Reply

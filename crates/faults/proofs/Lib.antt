@@ -1,0 +1,2 @@
+-- ValueLaws: the faults over values, test by test.
+pub mod ValueLaws

@@ -1,0 +1,2 @@
+-- Faults: what number 29 refuses, over values.
+pub mod Faults
