@@ -34,6 +34,7 @@ use Rattle.reader.proofs.Sound.{sound}
 use Rattle.reader.proofs.Accepted.{read-fits, read-few, read-accepted, read-blank}
 use Rattle.reader.proofs.WrittenLaws.{past, zeros-past, run, one, TableFits, Writable, written-tableAt, length-written, header-written, tableAt-written, readFault-written}
 use Rattle.executor.specs.declared.Machine.{Machine}
+use Rattle.faults.proofs.ValueLaws.{read-faultless}
 use Rattle.faults.proofs.ValueLaws.{some-miss}
 use Rattle.executor.specs.State.{fresh, faulty}
 use Rattle.faults.specs.Faults.{isBlank, tableFault}
@@ -68,23 +69,6 @@ take-bytes b n bytes i = go (le-or-lt n i)
     go : (n ≤ i) ⊎ (i < n) → getD (take n b) i 0 < 256
     go (inl h) = omega (arith, List·getD-eq-default (take n b) 0 {n = i} (omega (arith, length-take n b)))
     go (inr h) = omega (arith, getD-take n b i 0 h, bytes i)
-
--- ---- the table of accepted bytes has no fault
-
-blank-is : isBlank blank ≡ true
-unfolding isBlank every
-blank-is = refl
-
-read-faultless : (b : List ℕ) → (readFault b) .number ≡ 0 → tableFault (tableAt b) ≡ false
-unfolding tableFault tableAt
-read-faultless b e =
-    ap₂ _||_
-    (ap not (eq-eqb ((faultOf (tableAt b)) .number) 0 (ap (λ (r : Refusal). r .number) (read-accepted b e))))
-    (some-none (λ i. leb (getD b 1 0) i && not (isBlank (callbackAt (tableAt b) i))) places (λ i l. go i l (leb (getD b 1 0) i) refl))
-  where
-    go : (i : ℕ) → i < places → (x : Bool) → leb (getD b 1 0) i ≡ x → (x && not (isBlank (callbackAt (tableAt b) i))) ≡ false
-    go i l true f = ap not (ap isBlank (read-blank b e i (leb-true (getD b 1 0) i f) l) ∙ blank-is)
-    go i l false f = refl
 
 -- ---- laid out bytes
 

@@ -1,5 +1,6 @@
 -- The tick, refusal by refusal in the order of the page. Assumes nothing.
 --   admitted-full, admitted-free                                       refusal 21, or the effect
+--   passes                                                             where nothing refuses it, the tick has its effect
 --   tick-faulty, tick-spent, tick-cost, tick-foreign, tick-admitted    29, 18, 19, 20, and what follows
 use mathlib.Core.Path.{_≡_, refl, sym, ap, _∙_}
 use mathlib.Core.Logic.{_≢_}
@@ -47,7 +48,7 @@ module _ (m : Machine) (mask : ℕ) (supplied : Bool) (cost : ℕ) where
       (ne-eqb ((tickFault m mask supplied cost) .number) 0 (λ z. h (sym (ap (λ (x : Refusal). x .number) e) ∙ z)))
       ∙ ap (refused m) e)
 
-  passes : (tickFault m mask supplied cost) .number ≡ 0 → effect m mask supplied cost ≡ tickOf m mask supplied cost
+  pub passes : (tickFault m mask supplied cost) .number ≡ 0 → effect m mask supplied cost ≡ tickOf m mask supplied cost
   unfolding tickOf
   passes e =
       sym (ap (λ (b : Bool). elim b [ true ↦ effect m mask supplied cost | false ↦ refused m (tickFault m mask supplied cost) ]) (eq-eqb ((tickFault m mask supplied cost) .number) 0 e))

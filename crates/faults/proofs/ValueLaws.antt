@@ -1,21 +1,25 @@
 -- The faults of number 29 over values, test by test. Assumes nothing.
 -- cached-only, running-only: what is left of the tests of the cache. none-within, some-within: a number that lies in 1 to h.
 -- some-miss: where none passes. spare-start, spare-hit, spare-more, spare-end: the places beyond n, one after the other.
--- table-refused, table-read: the table.
+-- table-refused, table-read: the table. read-faultless: the table of accepted bytes has no fault.
 use mathlib.Core.Path.{_≡_, refl, sym, ap, ap₂, _∙_}
 use mathlib.Core.Logic.{_≢_}
 use mathlib.Core.Bool.{Bool, true, false, not, _&&_, _||_}
+use mathlib.Core.List.{List}
 use Prim.Native.Nat.{ℕ, _+_, _≤_, _<_}
 use native.Mathlib.Omega.{arith}
 use lib.Dec.{eqb, ltb, leb}
-use borrow.Author.Tests.{eq-eqb, ne-eqb, le-leb, lt-leb, ltb-true, ltb-false}
-use Rattle.curves.specs.Every.{some}
+use lib.ListN.{getD}
+use borrow.Author.Tests.{eq-eqb, ne-eqb, le-leb, lt-leb, leb-true, ltb-true, ltb-false}
+use Rattle.curves.specs.Every.{every, some}
 use Rattle.curves.proofs.EveryLaws.{some-hit, some-none, some-more, never-both}
 use Rattle.table.specs.declared.Refusal.{Refusal}
 use Rattle.table.specs.declared.Table.{Table}
 use Rattle.table.specs.Numbers.{places}
-use Rattle.table.specs.Values.{callbackAt}
+use Rattle.table.specs.Values.{blank, callbackAt}
 use Rattle.reader.specs.Rules.{within, faultOf}
+use Rattle.reader.specs.Format.{tableAt, readFault}
+use Rattle.reader.proofs.Accepted.{read-accepted, read-blank}
 use Rattle.faults.specs.Faults.{isBlank, isSpare, spareFault, tableFault}
 
 -- where a slot that waits is cached, only a timer is at fault
@@ -80,3 +84,20 @@ module _ (t : Table) (r : Refusal) (e : r ≡ faultOf t) where
   pub table-read : r .number ≡ 0 → spareFault t ≡ tableFault t
   unfolding tableFault spareFault
   table-read z = rw (eq-eqb ((faultOf t) .number) 0 (ap (λ (x : Refusal). x .number) (sym e) ∙ z))
+
+-- ---- the table of accepted bytes
+
+blank-is : isBlank blank ≡ true
+unfolding isBlank every
+blank-is = refl
+
+pub read-faultless : (b : List ℕ) → (readFault b) .number ≡ 0 → tableFault (tableAt b) ≡ false
+unfolding tableFault tableAt
+read-faultless b e =
+    ap₂ _||_
+    (ap (λ (r : Refusal). not (eqb (r .number) 0)) (read-accepted b e))
+    (some-none (λ i. leb (getD b 1 0) i && not (isBlank (callbackAt (tableAt b) i))) places (λ i l. go i l (leb (getD b 1 0) i) refl))
+  where
+    go : (i : ℕ) → i < places → (x : Bool) → leb (getD b 1 0) i ≡ x → (x && not (isBlank (callbackAt (tableAt b) i))) ≡ false
+    go i l true f = ap not (ap isBlank (read-blank b e i (leb-true (getD b 1 0) i f) l) ∙ blank-is)
+    go i l false f = refl

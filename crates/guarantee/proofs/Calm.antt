@@ -47,9 +47,11 @@ use Rattle.guarantee.specs.History.{Tick, Said, said, ticked, replies, t
 use Rattle.guarantee.specs.Within.{WithinCurves}
 use Rattle.guarantee.proofs.Lists
 use Rattle.guarantee.proofs.Lists.{hit}
-use Rattle.guarantee.proofs.Choose.{and-both, both-and}
+use Rattle.queues.proofs.ChooseLaws.{and-both}
+use Rattle.executor.proofs.TickLaws.{passes}
+use Rattle.guarantee.proofs.Choose.{both-and}
 use Rattle.guarantee.proofs.Step.{Valid}
-use Rattle.guarantee.proofs.Faults.{faultless, tick-is, not-refused}
+use Rattle.guarantee.proofs.Faults.{faultless, not-refused}
 use Rattle.guarantee.proofs.Ticks
 use Rattle.guarantee.proofs.Ticks.{before, at, effected, events, states}
 use Rattle.guarantee.proofs.Ground.{Ground, chains, leads}
@@ -304,12 +306,13 @@ module _ (tb : Table) (ground : Ground tb) (h : List Tick) (short : length h ≤
     -- the tick is not refused
     pub next-agrees : ticked m x ≡ effected m x
     next-agrees =
-        tick-is m (x .mask) (x .supplied) (x .cost)
+        sym
+        (passes m (x .mask) (x .supplied) (x .cost)
         (not-refused m (x .mask) (x .supplied) (x .cost) (faultless tb m valid few (ground .faultless))
         (omega (arith, Ticks.ticked-count tb (ground .sound) h masked (w .offers) t (omega arith)))
         (w .offers t l)
         (ap (λ (y : Table). foreign y (x .mask)) (valid .held) ∙ none-foreign)
-        none-full)
+        none-full))
 
   -- the two runs agree throughout
   pub agree : (t : ℕ) → t ≤ length h → Agree t

@@ -1,6 +1,6 @@
 -- What step 3 gives: somebody is chosen wherever somebody waits; the chosen one waits, and is in the cache then if it is polled;
 -- and the cache holds polled callbacks that wait, before and after. Nothing here asks who is polled.
---   foremost-hit, foremost-some   the first in priority that passes
+--   foremost-some                 the first in priority that passes
 --   Cached                        what a cache holds
 --   Chosen, chooses               what a choice gives
 use mathlib.Core.Path.{_≡_, refl, subst, sym, _∙_}
@@ -15,7 +15,7 @@ use lib.ListN.{getD}
 use Rattle.masks.specs.Mask.{has}
 use Rattle.masks.proofs.Gather.{gather-has, gather-in}
 use Rattle.curves.specs.Least.{lowest}
-use Rattle.curves.proofs.LeastLaws.{lowest-hit, lowest-some}
+use Rattle.curves.proofs.LeastLaws.{lowest-some}
 use Rattle.table.specs.declared.Table.{Table}
 use Rattle.table.specs.Numbers.{timer, client}
 use Rattle.table.specs.Values.{kindOf}
@@ -24,31 +24,14 @@ use Rattle.reader.proofs.Sound.{Sound}
 use Rattle.queues.specs.declared.Choice.{Choice}
 use Rattle.queues.specs.Choosing.{isPolled}
 use Rattle.queues.specs.Queues.{waits}
+use Rattle.queues.proofs.ChooseLaws.{and-both, foremost-hit}
 use Rattle.queues.specs.Choosing.{choice, gatheredOf, pollingPoint, choose}
-
-pub and-both : (a b : Bool) → T (a && b) → T a × T b
-and-both true b t = (tt, t)
-and-both false b t = absurd t
 
 pub both-and : (a b : Bool) → T a → T b → T (a && b)
 both-and true b t r = r
 both-and false b t r = t
 
 module _ (t : Table) where
-  -- whoever is found passes
-  foremost-from-hit : (p : ℕ → Bool) (f kind i : ℕ) → foremostFrom t p f kind ≡ suc i → (i < t .count) × T (p i)
-  unfolding foremostFrom
-  foremost-from-hit p zero kind i e = absurd (omega arith)
-  foremost-from-hit p (suc f) kind i e = go (lowest (λ i. eqb (kindOf t i) kind && p i) (t .count)) refl e (foremost-from-hit p f (suc kind) i)
-    where
-      go : (x : ℕ) → lowest (λ i. eqb (kindOf t i) kind && p i) (t .count) ≡ x
-          → elim x [ zero ↦ foremostFrom t p f (suc kind) | suc i ↦ suc i ] ≡ suc i
-          → (foremostFrom t p f (suc kind) ≡ suc i → (i < t .count) × T (p i)) → (i < t .count) × T (p i)
-      go zero q x r = r x
-      go (suc j) q x r =
-          let a = lowest-hit (λ i. eqb (kindOf t i) kind && p i) (t .count) i (q ∙ x) in
-          (a .0, and-both (eqb (kindOf t i) kind) (p i) (a .1) .1)
-
   -- where one of the kinds looked at passes, one is found
   foremost-from-some : (p : ℕ → Bool) (f kind j : ℕ) → j < t .count → kind ≤ kindOf t j → kindOf t j < kind + f → T (p j)
       → foremostFrom t p f kind ≢ 0
@@ -65,9 +48,6 @@ module _ (t : Table) where
         where
           here : T (eqb (kindOf t j) kind && p j)
           here = both-and (eqb (kindOf t j) kind) (p j) (subst (λ (x : ℕ). T (eqb (kindOf t j) x)) (sym e) (eqb-refl (kindOf t j))) h
-
-  pub foremost-hit : (p : ℕ → Bool) (i : ℕ) → foremost t p ≡ suc i → (i < t .count) × T (p i)
-  foremost-hit p i e = foremost-from-hit p client timer i e
 
   pub foremost-some : Sound t → (p : ℕ → Bool) (j : ℕ) → j < t .count → T (p j) → foremost t p ≢ 0
   foremost-some so p j l h = foremost-from-some p client timer j l (so .kind-from j l) (omega (arith, so .kind-to j l)) h
@@ -115,7 +95,7 @@ module _ (t : Table) where
       go (suc i) e y f = record {
         kept = good;
         waiting = λ j q. (
-            let a = foremost-hit unpolled j (e ∙ q) in
+            let a = foremost-hit t unpolled j (e ∙ q) in
             let b = and-both (not (isPolled t j)) (waits ws j) (a .1) in
             (a .0, ltb→lt 0 (getD ws j 0) (b .1), λ p. absurd (T-not (isPolled t j) (b .0) p))
             );
@@ -123,11 +103,11 @@ module _ (t : Table) where
       }
       go zero e (suc i) f = record {
         kept = good;
-        waiting = λ j q. (let a = foremost-hit (has c) j (f ∙ q) in (a .0, good j (a .1) .1, λ p. a .1));
+        waiting = λ j q. (let a = foremost-hit t (has c) j (f ∙ q) in (a .0, good j (a .1) .1, λ p. a .1));
         some = λ j l h. omega arith;
       }
       go zero e zero f = record {
         kept = gathered-cached ws;
-        waiting = λ j q. (let a = foremost-hit (has (gatheredOf t ws)) j q in (a .0, gathered-cached ws j (a .1) .1, λ p. a .1));
+        waiting = λ j q. (let a = foremost-hit t (has (gatheredOf t ws)) j q in (a .0, gathered-cached ws j (a .1) .1, λ p. a .1));
         some = λ j l h. found j l h e (isPolled t j) refl;
       }

@@ -2,7 +2,7 @@
 -- and a tick is refused by nothing but 29, 18, 19, 20 and 21.
 --   refuted     a test that cannot hold is false
 --   faultless   faulty m is false
---   tick-is, not-refused   the tick where none of the five applies
+--   not-refused   the tick where none of the five applies
 use mathlib.Core.Path.{_≡_, refl, sym, subst, ap, ap₂, _∙_}
 use mathlib.Core.Bool.{Bool, true, false, cond, not, _&&_, _||_}
 use Prim.Native.Nat.{ℕ, zero, suc, _≤_, _<_}
@@ -86,13 +86,6 @@ module _ (t : Table) (m : Machine) (ok : Valid t m) (small : (i : ℕ) → i < p
   faultless f = ap₂ _||_ (ap tableFault (ok .held) ∙ f) (ap₂ _||_ run-right (some-none (slotFault m) places slot-right))
 
 -- ---- no refusal
-
--- a tick that nothing refuses has its effect
-pub tick-is : (m : Machine) (mask : ℕ) (supplied : Bool) (cost : ℕ) → (tickFault m mask supplied cost) .number ≡ 0
-    → tickOf m mask supplied cost ≡ effect m mask supplied cost
-unfolding tickOf
-tick-is m mask supplied cost e =
-    ap (λ (n : ℕ). elim (eqb n 0) [ true ↦ effect m mask supplied cost | false ↦ refused m (tickFault m mask supplied cost) ]) e
 
 -- each refusal of the tick in turn
 pub not-refused : (m : Machine) (mask : ℕ) (supplied : Bool) (cost : ℕ) → faulty m ≡ false → m .clock < mostTicks

@@ -1,31 +1,27 @@
 -- What reader and analyser have seen to, of a table that both accept: all that the argument asks of it.
 --   Ground, ground   the table is sound and its sheet covers every offset, where the analyser accepts the bytes
 --   chains, leads    the chains of a sound table, as the busy-window argument takes them
-use mathlib.Core.Path.{_≡_, refl, ap, ap₂, _∙_}
+use mathlib.Core.Path.{_≡_}
 use mathlib.Core.Logic.{_≢_}
-use mathlib.Core.Bool.{Bool, true, false, not, _&&_, _||_}
+use mathlib.Core.Bool.{true, false}
 use mathlib.Core.List.{List}
 use Prim.Native.Nat.{ℕ, _+_, _≤_, _<_}
 use native.Mathlib.Omega.{arith}
-use lib.Dec.{T, eqb, leb}
-use borrow.Author.Tests.{leb-true}
+use lib.Dec.{T}
 use Rattle.curves.specs.Demand.{demand, limit}
-use Rattle.curves.specs.Every.{every}
-use Rattle.curves.proofs.EveryLaws.{T-holds, some-none}
-use Rattle.table.specs.declared.Callback.{Callback}
-use Rattle.table.specs.declared.Refusal.{Refusal}
+use Rattle.curves.proofs.EveryLaws.{T-holds}
 use Rattle.table.specs.declared.Table.{Table}
-use Rattle.table.specs.Numbers.{places}
-use Rattle.table.specs.Values.{blank, callbackAt, horizonOf}
+use Rattle.table.specs.Values.{horizonOf}
 use Rattle.table.specs.Links.{linked, isHead, headOf}
-use Rattle.reader.specs.Format.{tableAt, readFault}
+use Rattle.reader.specs.Format.{tableAt}
 use Rattle.reader.proofs.Sound.{Sound}
 use Rattle.reader.proofs.Heads.{fed-once, top, down, head-is-head}
-use Rattle.reader.proofs.Accepted.{read-accepted, read-sound, read-blank, read-count}
+use Rattle.reader.proofs.Accepted.{read-sound}
 use Rattle.busy_window.specs.Bound.{Covers}
 use Rattle.busy_window.specs.Chain.{Chains}
 use Rattle.queues.specs.Numbers.{mostWaiting}
-use Rattle.faults.specs.Faults.{isBlank, tableFault}
+use Rattle.faults.specs.Faults.{tableFault}
+use Rattle.faults.proofs.ValueLaws.{read-faultless}
 use Rattle.sheet.specs.Sheet.{arrivalsOf, costOf, supplyOf, windowOf, boundOf, analysisFault}
 use Rattle.sheet.proofs.WindowLaws.{window-settles, bound-covers}
 use Rattle.sheet.proofs.TableLaws.{sound-rising}
@@ -52,26 +48,6 @@ module _ (t : Table) (so : Sound t) where
 
 -- ---- bytes that the analyser accepts
 
-blank-is : isBlank blank ≡ true
-unfolding isBlank every
-blank-is = refl
-
--- the table that the reader gives is accepted by its values, and blank beyond n
-table-right : (b : List ℕ) → (readFault b) .number ≡ 0 → tableFault (tableAt b) ≡ false
-unfolding tableFault
-table-right b ok =
-    ap₂ _||_ (ap (λ (r : Refusal). not (eqb (r .number) 0)) (read-accepted b ok))
-    (some-none (λ i. leb ((tableAt b) .count) i && not (isBlank (callbackAt (tableAt b) i))) places beyond)
-  where
-    beyond : (i : ℕ) → i < places → (leb ((tableAt b) .count) i && not (isBlank (callbackAt (tableAt b) i))) ≡ false
-    beyond i h = go (leb ((tableAt b) .count) i) refl
-      where
-        go : (c : Bool) → leb ((tableAt b) .count) i ≡ c → (c && not (isBlank (callbackAt (tableAt b) i))) ≡ false
-        go false e = refl
-        go true e =
-            ap (λ (c : Callback). not (isBlank c)) (read-blank b ok i (omega (arith, leb-true ((tableAt b) .count) i e, read-count b ok)) h)
-            ∙ ap not blank-is
-
 pub ground : (b : List ℕ) (k : ℕ) → (analysisFault b k) .number ≡ 0 → Ground (tableAt b)
 unfolding windowOf boundOf
 ground b k ok =
@@ -81,7 +57,7 @@ ground b k ok =
     let w = window-settles (t .count) (arrivalsOf t) (costOf t) (supplyOf t) (horizonOf t) some in
     record {
       sound = so;
-      faultless = table-right b (analysed-read b k ok);
+      faultless = read-faultless b (analysed-read b k ok);
       window = w .0;
       supplied = omega (arith, w .2);
       small = few-arrivals t (analysed-sheet b k ok);

@@ -38,7 +38,7 @@ use Rattle.guarantee.specs.History.{Tick, Said, said, replies, tickAt, s
 use Rattle.guarantee.specs.Within.{WithinCurves}
 use Rattle.guarantee.proofs.Lists
 use Rattle.guarantee.proofs.Lists.{hit}
-use Rattle.guarantee.proofs.Choose.{and-both}
+use Rattle.queues.proofs.ChooseLaws.{and-both}
 use Rattle.guarantee.proofs.Ticks
 use Rattle.guarantee.proofs.Ticks.{before, at, effected, events, states}
 use Rattle.guarantee.proofs.Ground.{Ground, leads}

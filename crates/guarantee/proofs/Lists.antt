@@ -1,7 +1,6 @@
 -- What single ticks do to lists of counts, and the numbers 0 or 1 that the busy-window argument counts.
 --   hit                               1 where an index is that of a slot: hit-self, hit-other, hit-none, hit-le, hit-some
 --   sum-hit, fed-hit, fed-none, fed-next   a hit summed over the slots, and over the slots that feed one
---   arrived-length, arrived-at        step 1: each slot gains 1 if the mask has it
 --   raised-at, lessened-at            one more, or one fewer, in a slot
 --   activated-length, activated-at    the next of a completion gains 1
 use mathlib.Core.Path.{_≡_, refl, sym, ap, _∙_, fun-ext}
@@ -25,7 +24,7 @@ use Rattle.table.specs.Values.{nextOf}
 use Rattle.table.specs.Links.{linked}
 use Rattle.busy_window.specs.Flow.{fed}
 use Rattle.busy_window.proofs.Flow.{fed-zero}
-use Rattle.queues.specs.Queues.{arrivedTo, arrived, activated}
+use Rattle.queues.specs.Queues.{activated}
 
 -- ---- an index that is that of a slot
 
@@ -104,50 +103,6 @@ fed-none t n j = ap (λ (f : ℕ → ℕ). fed (linked t) n f j) (fun-ext hit-no
 pub fed-next : (t : Table) (n x j : ℕ) → ((p : ℕ) → x ≡ suc p → p < n) → fed (linked t) n (hit x) j ≡ hit (elim x [ zero ↦ 0 | suc i ↦ nextOf t i ]) j
 fed-next t n zero j h = fed-none t n j ∙ sym (hit-none j)
 fed-next t n (suc i) j h = fed-hit t n i j (h i refl)
-
--- ---- step 1: arrivals
-
-module _ (mask : ℕ) (ws : List ℕ) where
-  pub arrived-to-length : (k : ℕ) → length (arrivedTo mask k ws) ≡ length ws
-  unfolding arrivedTo
-  arrived-to-length zero = refl
-  arrived-to-length (suc k) = go (has mask k) (arrived-to-length k)
-    where
-      go : (b : Bool) → length (arrivedTo mask k ws) ≡ length ws
-          → length (cond b (set (arrivedTo mask k ws) k (getD (arrivedTo mask k ws) k 0 + 1)) (arrivedTo mask k ws)) ≡ length ws
-      go true e = length-set (arrivedTo mask k ws) k _ ∙ e
-      go false e = e
-
-  -- slots from k on are as they were
-  arrived-past : (k j : ℕ) → k ≤ j → getD (arrivedTo mask k ws) j 0 ≡ getD ws j 0
-  unfolding arrivedTo
-  arrived-past zero j l = refl
-  arrived-past (suc k) j l = go (has mask k) (arrived-past k j (omega arith))
-    where
-      go : (b : Bool) → getD (arrivedTo mask k ws) j 0 ≡ getD ws j 0
-          → getD (cond b (set (arrivedTo mask k ws) k (getD (arrivedTo mask k ws) k 0 + 1)) (arrivedTo mask k ws)) j 0 ≡ getD ws j 0
-      go true e = getD-set-other (arrivedTo mask k ws) k j _ 0 (omega arith) ∙ e
-      go false e = e
-
-  arrived-below : (k j : ℕ) → j < k → j < length ws → getD (arrivedTo mask k ws) j 0 ≡ getD ws j 0 + given (has mask j) 1
-  unfolding arrivedTo
-  arrived-below zero j l h = absurd (omega arith)
-  arrived-below (suc k) j l h = go (ℕ-discrete j k) (has mask k) refl (λ m. arrived-below k j m h)
-    where
-      go : Dec (j ≡ k) → (b : Bool) → has mask k ≡ b → (j < k → getD (arrivedTo mask k ws) j 0 ≡ getD ws j 0 + given (has mask j) 1)
-          → getD (cond b (set (arrivedTo mask k ws) k (getD (arrivedTo mask k ws) k 0 + 1)) (arrivedTo mask k ws)) j 0 ≡ getD ws j 0 + given (has mask j) 1
-      go (yes p) true e w = rw (p, e) (getD-set-same (arrivedTo mask k ws) k _ 0 (omega (arith, arrived-to-length k)) ∙ ap (λ (x : ℕ). x + 1) (arrived-past k k (le-refl k)))
-      go (yes p) false e w = rw (p, e) (arrived-past k k (le-refl k) ∙ sym (add-zero _))
-      go (no p) true e w = getD-set-other (arrivedTo mask k ws) k j _ 0 p ∙ w (omega arith)
-      go (no p) false e w = w (omega arith)
-
-  pub arrived-length : length (arrived mask ws) ≡ length ws
-  unfolding arrived
-  arrived-length = arrived-to-length places
-
-  pub arrived-at : (j : ℕ) → j < places → j < length ws → getD (arrived mask ws) j 0 ≡ getD ws j 0 + given (has mask j) 1
-  unfolding arrived
-  arrived-at j l h = arrived-below places j l h
 
 -- ---- one slot more, or one fewer
 

@@ -28,6 +28,7 @@ use Rattle.busy_window.proofs.Chain.{given-no}
 use Rattle.answers.specs.declared.Answer.{Answer}
 use Rattle.answers.specs.declared.Answer.the-variants.{Idle}
 use Rattle.queues.specs.declared.Choice.{Choice}
+use Rattle.queues.proofs.ArrivedLaws.{arrived-length, arrived-at}
 use Rattle.executor.specs.declared.Machine.{Machine}
 use Rattle.answers.specs.declared.Reply.{Reply}
 use Rattle.answers.specs.declared.Reply.the-variants.{Answered}
@@ -215,11 +216,11 @@ module _ (m : Machine) (so : Sound (m .table)) (ok : Valid (m .table) m) (mask c
 
   ws-at : (j : ℕ) → j < places → getD ws j 0 ≡ waitingOf m j + given (has mask j) 1
   unfolding ws
-  ws-at j l = Lists.arrived-at mask (m .waiting) j l (omega (arith, ok .sized .0))
+  ws-at j l = arrived-at mask (m .waiting) j l (omega (arith, ok .sized .0))
 
   ws-length : length ws ≡ places
   unfolding ws
-  ws-length = Lists.arrived-length mask (m .waiting) ∙ ok .sized .0
+  ws-length = arrived-length mask (m .waiting) ∙ ok .sized .0
 
   ws-none : (j : ℕ) → m .table .count ≤ j → j < places → getD ws j 0 ≡ 0
   ws-none j k h = omega (arith, ws-at j h, ok .beyond j k h .0, given-no (has mask j) 1 (λ x. omega (arith, masked j x)))
