@@ -17,7 +17,7 @@ use native.Mathlib.Omega.{arith}
 use lib.Dec.{T}
 use Rattle.curves.specs.Sum.{sum, given}
 use Rattle.curves.proofs.SumLaws.{sum-le, sum-add, le-or-lt, all-or-one}
-use Rattle.busy_window.specs.Counts.{Counts, Quiet, Busy}
+use Rattle.busy_window.specs.Counts.{Quiet, Busy}
 use Rattle.busy_window.specs.Run.{Run}
 use Rattle.busy_window.specs.Flow.{Events, States, Local, fed, counts}
 

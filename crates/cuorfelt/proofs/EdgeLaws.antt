@@ -1,12 +1,11 @@
 -- What the exported functions are made of, test by test. Assumes nothing.
 -- not-laid, is-laid, laid-no, laid-yes, not-zero, part-number, part-table: what unpacking gives.
 -- analysed: the analyser. start-short, start-size, start-refused, start-done, start-new: a start. said-parts, tick-none, tick-refused, tick-done: a tick.
-use mathlib.Core.Path.{_≡_, refl, sym, ap, ap₂, _∙_}
+use mathlib.Core.Path.{_≡_, refl, sym, ap, _∙_}
 use mathlib.Core.Bool.{Bool, true, false, not}
 use mathlib.Core.List.{List, _++_}
-use Prim.Native.Nat.{ℕ, zero, suc, _<_, _≤_, _-_}
+use Prim.Native.Nat.{ℕ, _<_, _≤_, _-_}
 use native.Mathlib.Omega.{arith}
-use lib.Dec.{eqb}
 use lib.ListN.{length, getD, replicate, length-replicate, length-append}
 use borrow.Author.Tests.{eq-eqb, ne-eqb, not-true}
 use Rattle.curves.proofs.EveryLaws.{never-both}

@@ -1,16 +1,16 @@
 -- Values of a machine stay in the ranges of their types. Assumes nothing.
 -- fits-read, fits-fresh: of a table that was read, and of its fresh state. fits-ticked: of the state that a tick hands back.
 use mathlib.Core.Path.{_≡_, refl, sym, ap, _∙_, subst}
-use mathlib.Core.Bool.{Bool, true, false, not, _&&_, _||_}
+use mathlib.Core.Bool.{Bool, true, false, not, _&&_}
 use mathlib.Core.Logic.{_⊎_, inl, inr}
-use mathlib.Core.List.{List, []}
+use mathlib.Core.List.{List}
 use Prim.Native.Nat.{ℕ, zero, suc, _≤_, _<_, _+_, _-_}
 use native.Mathlib.Decide.{ℕ-discrete}
 use native.Mathlib.Omega.{arith}
 use lib.Dec.{eqb, leb, ltb}
 use lib.ListN.{length, getD, set, replicate, length-set, getD-replicate, length-replicate, List·getD-eq-default}
 use lib.Seq.{getD-set-same, getD-set-other, set-out}
-use borrow.Author.Tests.{eqb-true, eqb-false, leb-true, leb-false, ltb-false}
+use borrow.Author.Tests.{eqb-true, leb-true, leb-false, ltb-false}
 use Rattle.masks.specs.Mask.{has, withoutBit}
 use Rattle.masks.proofs.Slots.{without-le}
 use Rattle.masks.proofs.Gather.{gather-mask}
@@ -18,28 +18,23 @@ use Rattle.curves.specs.Sum.{given}
 use Rattle.curves.specs.Every.{some}
 use Rattle.curves.proofs.SumLaws.{le-or-lt}
 use Rattle.curves.proofs.EveryLaws.{or-fails, and-holds}
-use Rattle.lent.specs.Bytes.{get2}
 use Rattle.lent.proofs.Trip.{get2-lt}
-use Rattle.table.specs.declared.Callback.{Callback}
-use Rattle.table.specs.declared.Refusal.{Refusal}
 use Rattle.table.specs.declared.Table.{Table}
 use Rattle.table.specs.Numbers.{places, entryPlaces}
-use Rattle.table.specs.Values.{refuse, accepted, blank, callbackAt, nextOf}
-use Rattle.table.specs.Priority.{foremost, foremostFrom}
-use Rattle.reader.specs.Rules.{within, faultOf}
+use Rattle.table.specs.Values.{blank, callbackAt, nextOf}
+use Rattle.table.specs.Priority.{foremost}
+use Rattle.reader.specs.Rules.{within}
 use Rattle.reader.specs.Format.{costAt, recordAt, recordStart, tableAt, readFault}
 use Rattle.reader.proofs.Accepted.{records-length, read-few, read-record, read-blank}
 use Rattle.reader.proofs.WrittenLaws.{CallbackFits, TableFits, Writable}
 use Rattle.queues.specs.declared.Choice.{Choice}
 use Rattle.executor.specs.declared.Machine.{Machine}
-use Rattle.executor.specs.declared.Ticked.{Ticked}
 use Rattle.queues.specs.Numbers.{mostTicks, mostWaiting, largestCost}
 use Rattle.executor.specs.State.{fresh, beyondFault, countFault, cacheFault, slotFault, runFault, faulty}
-use Rattle.queues.specs.Choosing.{isPolled}
+use Rattle.queues.specs.Choosing.{isPolled, choice, pollingPoint, gatheredOf, choose}
 use Rattle.faults.specs.Faults.{tableFault, countWrong, slotWrong}
 use Rattle.queues.specs.Queues.{arrived, gained, activated, waits}
 use Rattle.executor.specs.Effect.{after, instanceAt, finishes, continues, worked, begun, served, effect}
-use Rattle.queues.specs.Choosing.{choice, pollingPoint, gatheredOf, choose}
 use Rattle.executor.specs.Tick.{tickFault, refused, tickOf}
 use Rattle.faults.proofs.ValueLaws.{some-miss}
 use Rattle.queues.proofs.ArrivedLaws.{arrived-length, arrived-at}

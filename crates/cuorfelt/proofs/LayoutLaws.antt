@@ -3,19 +3,19 @@
 -- packed-over: to pack a state over bytes that hold its table is to write the bytes behind the table's place.
 -- pack-unpack, unpack-pack: the round trips. packed-fresh: the bytes of a fresh state.
 use mathlib.Core.Path.{_≡_, refl, sym, ap, ap₂, _∙_}
-use mathlib.Core.Bool.{Bool, true, false, not, _&&_, _||_}
+use mathlib.Core.Bool.{Bool, true, false, not, _&&_}
 use mathlib.Core.Logic.{_⊎_, inl, inr}
 use mathlib.Core.List.{List, [], _∷_, _++_, append-assoc, append-nil}
-use Prim.Native.Nat.{ℕ, zero, suc, _≤_, _<_, _+_, _-_, _*_, _/_, _%_}
+use Prim.Native.Nat.{ℕ, _≤_, _<_, _+_, _-_, _*_, _/_, _%_}
 use native.Mathlib.Nat.{add-zero, zero-add}
 use native.Mathlib.Omega.{arith}
 use lib.Dec.{eqb, leb}
 use lib.ListN.{length, getD, take, drop, replicate, length-append, length-take, length-replicate, length-drop, getD-replicate, take-append-drop, drop-of-length-le, replicate-append-replicate, List·getD-append, List·getD-eq-default}
-use lib.Seq.{length-take-le, getD-take, take-at, take-all, take-add, take-length, ext-getD}
-use borrow.Author.Tests.{eqb-true, eq-eqb, le-leb, leb-true, not-false, not-true}
+use lib.Seq.{length-take-le, getD-take, take-at, take-all, ext-getD}
+use borrow.Author.Tests.{eqb-true, eq-eqb, le-leb, not-false}
 use Rattle.curves.specs.Every.{every, some}
 use Rattle.curves.proofs.SumLaws.{le-or-lt}
-use Rattle.curves.proofs.EveryLaws.{and-holds, or-fails, every-at, some-none}
+use Rattle.curves.proofs.EveryLaws.{and-holds, or-fails, every-at}
 use Rattle.lent.specs.Bytes.{get2, get4, le2, le4, zeros}
 use Rattle.lent.specs.Over.{over}
 use Rattle.lent.proofs.Replace.{over-own, over-length, over-over}
@@ -25,17 +25,16 @@ use Rattle.lent.proofs.Trip.{le2-get2, le4-get4}
 use Rattle.table.specs.declared.Callback.{Callback}
 use Rattle.table.specs.declared.Refusal.{Refusal}
 use Rattle.table.specs.declared.Table.{Table}
-use Rattle.table.specs.Numbers.{places, entryPlaces, headerLength, recordLength}
-use Rattle.table.specs.Values.{blank, vacant, callbackAt}
+use Rattle.table.specs.Numbers.{places, entryPlaces}
+use Rattle.table.specs.Values.{blank, callbackAt}
 use Rattle.reader.specs.Rules.{faultOf}
 use Rattle.reader.specs.Format.{recordStart, readFault, tableAt}
 use Rattle.reader.specs.Written.{words, written}
 use Rattle.reader.proofs.Sound.{sound}
-use Rattle.reader.proofs.Accepted.{read-fits, read-few, read-accepted, read-blank}
+use Rattle.reader.proofs.Accepted.{read-fits, read-few}
 use Rattle.reader.proofs.WrittenLaws.{past, zeros-past, run, one, TableFits, Writable, written-tableAt, length-written, header-written, tableAt-written, readFault-written}
 use Rattle.executor.specs.declared.Machine.{Machine}
-use Rattle.faults.proofs.ValueLaws.{read-faultless}
-use Rattle.faults.proofs.ValueLaws.{some-miss}
+use Rattle.faults.proofs.ValueLaws.{read-faultless, some-miss}
 use Rattle.executor.specs.State.{fresh, faulty}
 use Rattle.faults.specs.Faults.{isBlank, tableFault}
 use Rattle.cuorfelt.specs.Layout.{stateLength, waitingStart, finishedStart, clockStart, cacheStart, unitsStart, runningStart, spareStart, spareBytes, get2s, get4s, longs, tableEnd, tablePart, laidOut, unpackedWith, unpacked, packedTail, packed}

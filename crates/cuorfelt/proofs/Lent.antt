@@ -4,19 +4,16 @@
 use mathlib.Core.Path.{_≡_, refl, sym, ap, ap₂, _∙_, subst}
 use mathlib.Core.Bool.{Bool, true, false}
 use mathlib.Core.List.{List, [], _∷_}
-use Prim.Native.Nat.{ℕ, zero, suc, _<_}
-use native.Mathlib.Omega.{arith}
+use Prim.Native.Nat.{ℕ, _<_}
 use lib.Dec.{eqb}
 use lib.ListN.{length, getD}
-use borrow.Author.Tests.{eqb-true, eqb-false, eq-eqb, ne-eqb}
+use borrow.Author.Tests.{eqb-false}
 use Rattle.table.specs.declared.Refusal.{Refusal}
 use Rattle.table.specs.declared.Table.{Table}
-use Rattle.table.specs.Values.{accepted}
 use Rattle.reader.specs.Rules.{faultOf}
-use Rattle.reader.specs.Format.{readFault, readOf, tableAt}
-use Rattle.reader.proofs.Accepted.{reading-is, read-table, read-accepted}
+use Rattle.reader.specs.Format.{readFault, tableAt}
+use Rattle.reader.proofs.Accepted.{read-table, read-accepted}
 use Rattle.reader.proofs.WrittenLaws.{TableFits, Writable}
-use Rattle.answers.specs.declared.Answer.{Answer}
 use Rattle.answers.specs.declared.Answer.the-variants.{NoSupply, Idle, Ran, Finished}
 use Rattle.executor.specs.declared.Machine.{Machine}
 use Rattle.answers.specs.declared.Reply.{Reply}
@@ -25,8 +22,8 @@ use Rattle.executor.specs.declared.Ticked.{Ticked}
 use Rattle.executor.specs.State.{fresh}
 use Rattle.executor.specs.Start.{startOf}
 use Rattle.cuorfelt.specs.declared.Said.{Said}
-use Rattle.cuorfelt.specs.Layout.{stateLength, laidOut, unpacked, packed}
-use Rattle.cuorfelt.specs.Edge.{startFault, stateStarted, flag, saidOf, saidBy, isSupplied, tickSaid, stateTicked}
+use Rattle.cuorfelt.specs.Layout.{stateLength, packed}
+use Rattle.cuorfelt.specs.Edge.{stateStarted, flag, saidOf, saidBy, isSupplied, tickSaid, stateTicked}
 use Rattle.cuorfelt.specs.Lent.{Call, called, saidIn, saidFrom, heard}
 use Rattle.cuorfelt.proofs.LayoutLaws.{MachineFits, laid-packed, unpacked-packed}
 use Rattle.cuorfelt.proofs.TickLaws.{tick-table, number, refused-keeps}

@@ -8,7 +8,6 @@ use Rattle.table.specs.declared.Refusal.{Refusal}
 use Rattle.table.specs.Values.{refuse}
 use Rattle.reader.specs.Format.{readFault}
 use Rattle.sheet.specs.Sheet.{sheetOf}
-use Rattle.executor.specs.declared.Machine.{Machine}
 use Rattle.answers.specs.declared.Reply.{Reply}
 use Rattle.executor.specs.declared.Ticked.{Ticked}
 use Rattle.queues.specs.Numbers.{faultyState}

@@ -1,5 +1,5 @@
 -- A history whose state is handed on in the lent bytes (document 01, 'A history'), and what a host hears in the numbers that a tick says.
-use mathlib.Core.Bool.{Bool, cond}
+use mathlib.Core.Bool.{cond}
 use mathlib.Core.List.{List, [], _∷_}
 use Prim.Native.Nat.{ℕ}
 use lib.Dec.{eqb}

@@ -1,5 +1,5 @@
 -- The work that a window may hold, over any arrivals a and costs e of n callbacks: demand, and whose instances are charged (limit).
-use mathlib.Core.Bool.{Bool, true, false}
+use mathlib.Core.Bool.{true, false}
 use Prim.Native.Nat.{ℕ, suc, _≤_, _<_}
 use lib.Dec.{eqb}
 use Rattle.curves.specs.Sum.{sum}

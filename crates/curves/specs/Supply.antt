@@ -1,5 +1,5 @@
 -- Supply, at least (document 01, 'Curves': the periodic resource model cited by 003).
-use mathlib.Core.Bool.{Bool, true, false}
+use mathlib.Core.Bool.{true, false}
 use Prim.Native.Nat.{ℕ, _+_, _*_, _-_, _/_}
 use lib.Dec.{ltb}
 

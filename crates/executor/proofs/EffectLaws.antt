@@ -25,10 +25,9 @@ use Rattle.queues.specs.Numbers.{mostWaiting}
 use Rattle.executor.specs.State.{waitingOf}
 use Rattle.executor.specs.Effect
 use Rattle.queues.specs.Queues.{arrived, waits}
-use Rattle.queues.specs.Choosing.{choice, choose}
+use Rattle.queues.specs.Choosing.{choice, choose, chooseIn}
 use Rattle.executor.specs.Effect.{finishes, continues, worked, begun, served, effect, after, answered}
 use Rattle.executor.specs.Work.{slotOf, workedBy, idled, Workable, Ready, withWaiting}
-use Rattle.queues.specs.Choosing.{chooseIn}
 use Rattle.queues.proofs.ArrivedLaws.{arrived-at}
 use Rattle.queues.proofs.ChooseLaws.{choose-law, chosen-waits}
 

@@ -1,26 +1,19 @@
 -- The faults of number 29, test by test. Assumes nothing.
 -- faulty-table, faulty-state, faulty-by: the table, and the state around it.
 -- slot-is, state-run, state-slot, state-right: what runs, and the slots, one after the other.
-use mathlib.Core.Path.{_≡_, refl, sym, ap, ap₂, _∙_}
-use mathlib.Core.Logic.{_≢_}
-use mathlib.Core.Bool.{Bool, true, false, not, _&&_, _||_, or-true}
+use mathlib.Core.Path.{_≡_, refl, sym, _∙_}
+use mathlib.Core.Bool.{Bool, true, false, not, or-true}
 use Prim.Native.Nat.{ℕ, _+_, _≤_, _<_}
 use native.Mathlib.Numerals.{add-one}
-use native.Mathlib.Omega.{arith}
-use lib.Dec.{eqb, ltb, leb}
-use borrow.Author.Tests.{eq-eqb, ne-eqb, le-leb, lt-leb, ltb-true, ltb-false}
+use lib.Dec.{eqb, leb}
 use Rattle.masks.specs.Mask.{has}
 use Rattle.curves.specs.Every.{some}
-use Rattle.curves.proofs.EveryLaws.{some-hit, some-none, some-more, never-both}
-use Rattle.table.specs.declared.Refusal.{Refusal}
-use Rattle.table.specs.declared.Table.{Table}
+use Rattle.curves.proofs.EveryLaws.{some-hit}
 use Rattle.table.specs.Numbers.{places, timer}
-use Rattle.table.specs.Values.{callbackAt, kindOf}
-use Rattle.reader.specs.Rules.{within, faultOf}
+use Rattle.table.specs.Values.{kindOf}
 use Rattle.executor.specs.declared.Machine.{Machine}
-use Rattle.executor.specs.State.{waitingOf, finishedAt, runs, beyondFault, countFault, cacheFault, slotFault, runFault, faulty}
+use Rattle.executor.specs.State.{waitingOf, finishedAt, slotFault, runFault, faulty}
 use Rattle.queues.specs.Choosing.{isPolled}
-use Rattle.faults.specs.Faults.{tableFault, slotWrong, runWrong}
 use Rattle.faults.specs.Faults.{tableFault, slotWrong, runWrong}
 use Rattle.executor.specs.Work.{stateFault}
 use Rattle.faults.proofs.ValueLaws.{some-fewer}

@@ -3,24 +3,17 @@
 --   foreign-law                                      a bit that belongs to no head
 --   chosen-below, finished-le, activated-le          whoever finishes, or is activated, is one of the table's
 --   full-law, finished-few, activated-few, full-is    refusal 21 of a tick
-use mathlib.Core.Path.{_≡_, refl, sym, subst, ap, ap₂, _∙_}
+use mathlib.Core.Path.{_≡_, refl, sym, subst, ap, _∙_}
 use mathlib.Core.Logic.{_≢_}
-use mathlib.Core.Bool.{Bool, true, false, not, _&&_, _||_}
+use mathlib.Core.Bool.{Bool, true, false, not, _&&_}
 use mathlib.Core.List.{List}
-use Prim.Native.Nat.{ℕ, zero, suc, _+_, _-_, _≤_, _<_}
-use native.Mathlib.Decide.{ℕ-discrete}
-use native.Mathlib.Numerals.{add-one}
+use Prim.Native.Nat.{ℕ, zero, suc, _-_, _≤_, _<_}
 use native.Mathlib.Omega.{arith}
-use lib.Dec.{T, eqb, ltb, leb}
-use lib.ListN.{getD}
-use borrow.Author.Tests.{eq-eqb, ne-eqb, le-leb, lt-leb, ltb-false}
-use Rattle.masks.specs.Mask.{has, withBit, withoutBit, except, firstOf, gather}
-use Rattle.masks.proofs.Slots.{has-zero, has-with, has-without-other, has-except, except-lt, has-above}
-use Rattle.masks.proofs.Lowest.{first-of-below}
+use lib.Dec.{eqb, ltb}
+use borrow.Author.Tests.{ltb-false}
+use Rattle.masks.specs.Mask.{has, except, gather}
+use Rattle.masks.proofs.Slots.{has-except, except-lt, has-above}
 use Rattle.masks.proofs.Gather.{gather-has}
-use Rattle.curves.specs.Least.{lowest}
-use Rattle.curves.proofs.LeastLaws.{First, byIndex, lowest-least, least-is, lowest-hit, lowest-same}
-use Rattle.curves.proofs.EveryLaws.{T-holds, T-fails}
 use Rattle.table.specs.declared.Table.{Table}
 use Rattle.table.specs.Numbers.{places}
 use Rattle.table.specs.Values.{nextOf}
@@ -33,15 +26,12 @@ use Rattle.executor.specs.declared.Machine.{Machine}
 use Rattle.executor.specs.declared.Ticked.{Ticked}
 use Rattle.queues.specs.Numbers.{mostWaiting}
 use Rattle.answers.specs.Reply.{finishedOf}
-use Rattle.queues.specs.Choosing.{isPolled}
-use Rattle.queues.specs.Queues.{waits, arrived}
-use Rattle.queues.specs.Choosing.{choose, gatheredOf, pollingPoint}
+use Rattle.queues.specs.Choosing.{isPolled, choose, gatheredOf, pollingPoint}
+use Rattle.queues.specs.Queues.{waits, arrived, fullWith}
 use Rattle.executor.specs.Effect.{finishes, continues, worked, begun, served, effect, after, answered}
 use Rattle.executor.specs.Tick.{foreign, nextActivated, full}
 use Rattle.executor.specs.Work.{Ready}
 use Rattle.executor.specs.Admitted.{nextAfter}
-use Rattle.queues.specs.Queues.{fullIn, fullWith}
-use Rattle.queues.proofs.SlotLaws.{lowest-set}
 use Rattle.queues.proofs.ChooseLaws.{foremost-hit, chosenOf}
 
 -- ---- who is activated

@@ -21,8 +21,7 @@ use Rattle.reader.proofs.Sound.{Sound, sound}
 use Rattle.executor.specs.declared.Machine.{Machine}
 use Rattle.queues.specs.Numbers.{mostTicks, mostWaiting, largestCost}
 use Rattle.executor.specs.State.{waitingOf, finishedAt, runs, beyondFault, countFault, cacheFault, slotFault, runFault}
-use Rattle.faults.specs.Faults.{isBlank, tableFault, cacheWrong, countWrong, runWrong, slotWrong}
-use Rattle.faults.specs.Faults.{isSpare}
+use Rattle.faults.specs.Faults.{isBlank, tableFault, cacheWrong, countWrong, runWrong, slotWrong, isSpare}
 use Rattle.executor.specs.Work.{Ready, stateFault}
 use Rattle.faults.proofs.ValueLaws.{some-miss}
 

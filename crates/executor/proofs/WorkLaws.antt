@@ -1,11 +1,11 @@
 -- Step 4 by the index of a callback rather than its slot. Assumes nothing.
 -- index-slot: an index from 1 is that of a slot.
 -- lessened-room: where one leaves a count, each still has room. worked-last, worked-more: a unit is the last or not.
-use mathlib.Core.Path.{_≡_, refl, sym, ap}
+use mathlib.Core.Path.{_≡_}
 use mathlib.Core.Logic.{_⊎_, inl, inr, _≢_}
 use mathlib.Core.Bool.{Bool}
 use mathlib.Core.List.{List}
-use Prim.Native.Nat.{ℕ, zero, suc, _+_, _-_, _≤_, _<_}
+use Prim.Native.Nat.{ℕ, suc, _+_, _-_, _≤_, _<_}
 use native.Mathlib.Nat.{le-refl}
 use native.Mathlib.Decide.{ℕ-discrete}
 use native.Mathlib.Omega.{arith}
@@ -18,7 +18,6 @@ use Rattle.queues.specs.Numbers.{mostWaiting}
 use Rattle.queues.specs.declared.Choice.{Choice}
 use Rattle.executor.specs.declared.Machine.{Machine}
 use Rattle.executor.specs.State.{waitingOf}
-use Rattle.queues.specs.Queues.{gained, activated}
 use Rattle.executor.specs.Effect.{finishes, continues, worked}
 use Rattle.executor.specs.Work.{slotOf, Workable}
 

@@ -1,17 +1,11 @@
 -- The tick past the refusals 29 to 20, beside the definitions of Tick.
-use mathlib.Core.Bool.{Bool, _&&_, _||_}
-use mathlib.Core.List.{List}
+use mathlib.Core.Bool.{Bool}
 use Prim.Native.Nat.{ℕ, zero, suc}
-use lib.Dec.{eqb, leb}
-use lib.ListN.{getD}
-use Rattle.masks.specs.Mask.{has}
-use Rattle.curves.specs.Least.{lowest}
 use Rattle.table.specs.declared.Table.{Table}
-use Rattle.table.specs.Numbers.{places}
 use Rattle.table.specs.Values.{refuse, nextOf}
 use Rattle.executor.specs.declared.Machine.{Machine}
 use Rattle.executor.specs.declared.Ticked.{Ticked}
-use Rattle.queues.specs.Numbers.{mostWaiting, queueFull}
+use Rattle.queues.specs.Numbers.{queueFull}
 use Rattle.executor.specs.Effect.{effect}
 use Rattle.executor.specs.Tick.{full, refused}
 

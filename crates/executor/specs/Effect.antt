@@ -1,14 +1,11 @@
 -- The effect of one tick, steps 1 to 4 of document 01, over unbounded counts; the refusals stand in front of it (Tick).
-use mathlib.Core.Bool.{Bool, true, false, cond, not, _&&_}
+use mathlib.Core.Bool.{Bool, true, false}
 use mathlib.Core.List.{List}
 use Prim.Native.Nat.{ℕ, zero, suc, _+_, _-_}
-use lib.Dec.{eqb, ltb}
+use lib.Dec.{eqb}
 use lib.ListN.{getD, set}
-use Rattle.masks.specs.Mask.{has, withoutBit, gather, countOf}
-use Rattle.table.specs.declared.Table.{Table}
-use Rattle.table.specs.Numbers.{places}
+use Rattle.masks.specs.Mask.{withoutBit}
 use Rattle.table.specs.Values.{nextOf}
-use Rattle.table.specs.Priority.{foremost}
 use Rattle.answers.specs.declared.Answer.{Answer}
 use Rattle.answers.specs.declared.Answer.the-variants.{NoSupply, Idle, Ran, Finished}
 use Rattle.queues.specs.declared.Choice.{Choice}

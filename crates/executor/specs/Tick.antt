@@ -1,9 +1,9 @@
 -- The tick: the first refusal that applies, 29, 18, 19, 20, 21, or the effect.
 use mathlib.Core.Bool.{Bool, true, false, not, _&&_, _||_}
-use Prim.Native.Nat.{ℕ, zero, suc, pred}
+use Prim.Native.Nat.{ℕ, zero, suc}
 use lib.Dec.{eqb, ltb, leb}
 use Rattle.masks.specs.Mask.{has}
-use Rattle.curves.specs.Least.{lowest, lowestFrom}
+use Rattle.curves.specs.Least.{lowest}
 use Rattle.table.specs.declared.Refusal.{Refusal}
 use Rattle.table.specs.declared.Table.{Table}
 use Rattle.table.specs.Numbers.{places}

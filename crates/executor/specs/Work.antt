@@ -1,28 +1,19 @@
 -- What the functions of a tick ask and give, beside the definitions of Effect.
-use Prim.Native.Nat.{ℕ, zero, suc, _+_, _-_, _≤_, _<_}
+use Prim.Native.Nat.{ℕ, suc, _+_, _-_, _≤_, _<_}
 use mathlib.Core.Path.{_≡_}
 use mathlib.Core.List.{List}
-use mathlib.Core.Bool.{Bool, true, false, cond, not, _&&_, _||_}
-use lib.Dec.{eqb, ltb, leb}
-use lib.ListN.{getD}
-use Rattle.masks.specs.Mask.{has, both, except, countOf}
-use Rattle.curves.specs.Every.{every, some}
-use Rattle.table.specs.declared.Callback.{Callback}
-use Rattle.table.specs.declared.Kinds.{Kinds}
-use Rattle.table.specs.Numbers.{places, entryPlaces}
-use Rattle.table.specs.Priority.{foremostIn}
-use Rattle.reader.specs.Rules.{within}
-use Rattle.table.specs.declared.Table.{Table}
-use Rattle.table.specs.Values.{callbackAt, nextOf}
+use mathlib.Core.Bool.{Bool, true, false, _||_}
+use Rattle.masks.specs.Mask.{has}
+use Rattle.curves.specs.Every.{some}
+use Rattle.table.specs.Numbers.{places}
+use Rattle.table.specs.Values.{nextOf}
 use Rattle.answers.specs.declared.Answer.the-variants.{Idle}
 use Rattle.queues.specs.declared.Choice.{Choice}
 use Rattle.executor.specs.declared.Machine.{Machine}
 use Rattle.executor.specs.declared.Ticked.{Ticked}
-use Rattle.queues.specs.Numbers.{mostTicks, mostWaiting, largestCost}
+use Rattle.queues.specs.Numbers.{mostTicks, mostWaiting}
 use Rattle.executor.specs.State.{waitingOf, finishedAt, slotFault, runFault}
-use Rattle.faults.specs.Faults.{isBlank}
 use Rattle.executor.specs.Effect.{after, answered, finishes, continues, worked}
-use Rattle.queues.specs.Choosing.{choice}
 
 -- the faults of a state other than those of its table
 unfoldable pub stateFault : Machine → Bool

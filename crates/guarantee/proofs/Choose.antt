@@ -22,10 +22,9 @@ use Rattle.table.specs.Values.{kindOf}
 use Rattle.table.specs.Priority.{foremostFrom, foremost}
 use Rattle.reader.proofs.Sound.{Sound}
 use Rattle.queues.specs.declared.Choice.{Choice}
-use Rattle.queues.specs.Choosing.{isPolled}
+use Rattle.queues.specs.Choosing.{isPolled, choice, gatheredOf, pollingPoint, choose}
 use Rattle.queues.specs.Queues.{waits}
 use Rattle.queues.proofs.ChooseLaws.{and-both, foremost-hit}
-use Rattle.queues.specs.Choosing.{choice, gatheredOf, pollingPoint, choose}
 
 pub both-and : (a b : Bool) → T a → T b → T (a && b)
 both-and true b t r = r

@@ -24,11 +24,10 @@ use Rattle.table.specs.Priority.{foremostFrom}
 use Rattle.reader.specs.Rules.{supplyFault, costFault, unusedFault, recordFault, recordsFrom, arrivalsFault, linksFault, faultWith}
 use Rattle.reader.specs.Format.{recordAt, spareAt, recordsTo, tableAt, sparesAt, readFault, readOf}
 use Rattle.table.specs.Values.{horizonOf}
-use Rattle.executor.specs.State.{fresh, beyondFault, countFault, cacheFault, slotFault, runFault, faulty}
-use Rattle.queues.specs.Choosing.{isPolled}
+use Rattle.executor.specs.State.{fresh, faulty}
+use Rattle.queues.specs.Choosing.{isPolled, gatheredOf, choose}
 use Rattle.faults.specs.Faults.{isBlank, tableFault, beyondWrong, cacheWrong, countWrong, runWrong, slotWrong}
 use Rattle.queues.specs.Queues.{arrivedTo, arrived, activated}
-use Rattle.queues.specs.Choosing.{gatheredOf, choose}
 use Rattle.executor.specs.Effect.{finishes, continues, worked, begun, served, effect}
 use Rattle.executor.specs.Tick.{foreign, nextActivated, full, tickFault, refused, tickOf}
 use Rattle.executor.specs.Start.{startOf}

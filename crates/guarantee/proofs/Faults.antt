@@ -19,8 +19,7 @@ use Rattle.queues.specs.Numbers.{mostTicks, mostWaiting, largestCost}
 use Rattle.queues.specs.Choosing.{isPolled}
 use Rattle.executor.specs.State.{waitingOf, finishedAt, runs, beyondFault, countFault, cacheFault, slotFault, runFault, faulty}
 use Rattle.faults.specs.Faults.{tableFault, beyondWrong, cacheWrong, countWrong, runWrong, slotWrong}
-use Rattle.executor.specs.Effect.{effect}
-use Rattle.executor.specs.Tick.{foreign, full, tickFault, refused, tickOf}
+use Rattle.executor.specs.Tick.{foreign, full, tickFault}
 use Rattle.guarantee.proofs.Step.{Valid}
 
 pub refuted : (b : Bool) → ¬ (T b) → b ≡ false

@@ -5,7 +5,7 @@
 --   activated-length, activated-at    the next of a completion gains 1
 use mathlib.Core.Path.{_≡_, refl, sym, ap, _∙_, fun-ext}
 use mathlib.Core.Logic.{_≢_}
-use mathlib.Core.Bool.{Bool, true, false, cond}
+use mathlib.Core.Bool.{Bool, true, false}
 use mathlib.Core.List.{List}
 use Prim.Native.Nat.{ℕ, zero, suc, _+_, _-_, _≤_, _<_}
 use native.Mathlib.Nat.{le-refl, zero-add, add-zero}
@@ -15,11 +15,9 @@ use lib.Dec.{eqb}
 use lib.ListN.{length, getD, set, length-set}
 use lib.Seq.{getD-set-same, getD-set-other}
 use borrow.Author.Tests.{eq-eqb, ne-eqb, eqb-true}
-use Rattle.masks.specs.Mask.{has}
 use Rattle.curves.specs.Sum.{sum, given}
 use Rattle.curves.proofs.SumLaws.{sum-none}
 use Rattle.table.specs.declared.Table.{Table}
-use Rattle.table.specs.Numbers.{places}
 use Rattle.table.specs.Values.{nextOf}
 use Rattle.table.specs.Links.{linked}
 use Rattle.busy_window.specs.Flow.{fed}

@@ -36,10 +36,9 @@ use Rattle.executor.specs.declared.Ticked.{Ticked}
 use Rattle.queues.specs.Numbers.{largestCost}
 use Rattle.answers.specs.Reply.{callbackOf, instanceOf, finishedOf}
 use Rattle.executor.specs.State.{fresh, waitingOf, finishedAt}
-use Rattle.queues.specs.Choosing.{isPolled}
+use Rattle.queues.specs.Choosing.{isPolled, choose}
 use Rattle.queues.specs.Queues.{arrived, activated}
 use Rattle.executor.specs.Effect.{after, answered, finishes, continues, worked, begun, served, effect}
-use Rattle.queues.specs.Choosing.{choose}
 use Rattle.guarantee.proofs.Lists
 use Rattle.guarantee.proofs.Lists.{hit}
 use Rattle.guarantee.proofs.Choose.{Cached, Chosen, chooses}

@@ -1,13 +1,9 @@
 -- The claim in lent bytes: a history in lent bytes says what the same history by value says, so that the claim by value is the claim. Assumes nothing.
 use mathlib.Core.Path.{_≡_, refl, sym, ap, ap₂, subst, _∙_}
-use mathlib.Core.Bool.{Bool}
 use mathlib.Core.List.{List, [], _∷_}
-use Prim.Native.Nat.{ℕ}
 use lib.ListN.{length}
-use Rattle.table.specs.declared.Table.{Table}
 use Rattle.reader.specs.Format.{tableAt}
 use Rattle.executor.specs.declared.Machine.{Machine}
-use Rattle.answers.specs.declared.Reply.{Reply}
 use Rattle.executor.specs.declared.Ticked.{Ticked}
 use Rattle.executor.specs.Start.{startOf}
 use Rattle.sheet.specs.Sheet.{rowOf}
@@ -17,10 +13,10 @@ use Rattle.guarantee.specs.Within.{WithinCurves}
 use Rattle.guarantee.specs.Claim.{Kept}
 use Rattle.guarantee.proofs.Guarantee.{guarantee}
 use Rattle.cuorfelt.specs.declared.Said as edge
-use Rattle.cuorfelt.specs.Edge.{flag, saidOf, saidBy, isSupplied, stateStarted}
-use Rattle.cuorfelt.specs.Lent.{Call, called, saidIn, saidFrom, heard}
+use Rattle.cuorfelt.specs.Edge.{saidOf, saidBy}
+use Rattle.cuorfelt.specs.Lent.{Call, called, saidFrom}
 use Rattle.cuorfelt.proofs.Lent.{heard-said, flag-heard, lent-said}
-use Rattle.lent_guarantee.specs.Claim.{tickOfCall, ticks, hears, heardFrom, LentGuarantee}
+use Rattle.lent_guarantee.specs.Claim.{ticks, hears, heardFrom, LentGuarantee}
 
 -- a host hears what the tick says
 hears-said : (x : Ticked) → hears (saidBy x) ≡ said x

@@ -22,10 +22,8 @@ use Rattle.table.specs.Values.{kindOf}
 use Rattle.table.specs.Priority.{foremostFrom, foremost, foremostIn, kindsTo, kindsOf}
 use Rattle.table.proofs.PriorityLaws.{foremost-law}
 use Rattle.queues.specs.declared.Choice.{Choice}
-use Rattle.queues.specs.Choosing.{isPolled}
+use Rattle.queues.specs.Choosing.{isPolled, choice, gatheredOf, pollingPoint, choose, pollIn, chooseIn}
 use Rattle.queues.specs.Queues.{waits}
-use Rattle.queues.specs.Choosing.{choice, gatheredOf, pollingPoint, choose}
-use Rattle.queues.specs.Choosing.{pollIn, chooseIn}
 
 pub and-both : (a b : Bool) → T (a && b) → T a × T b
 and-both true b t = (tt, t)

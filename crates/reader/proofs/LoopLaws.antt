@@ -8,16 +8,16 @@ use Prim.Native.Nat.{ℕ, zero, suc, _+_, _-_, _^_, _≤_, _<_, pred}
 use native.Mathlib.Numerals.{add-one}
 use native.Mathlib.Decide.{ℕ-discrete}
 use native.Mathlib.Omega.{arith}
-use lib.Dec.{T, eqb, leb, eqb→eq}
+use lib.Dec.{eqb, leb, eqb→eq}
 use lib.Pow.{pow-pos}
-use borrow.Author.Tests.{eqb-true, leb-true, not-true}
+use borrow.Author.Tests.{leb-true}
 use Rattle.masks.specs.Mask.{has, withBit, except, gather}
 use Rattle.masks.proofs.Slots.{has-with, has-with-same, has-with-other, has-except, has-zero, mask-ext, except-lt}
 use Rattle.masks.proofs.Gather.{gather-lt, gather-in}
 use Rattle.curves.specs.Least.{least, lowest}
 use Rattle.curves.specs.Walk.{walk}
 use Rattle.curves.proofs.LeastLaws.{First, Nowhere, least-spec}
-use Rattle.curves.proofs.EveryLaws.{holds, never-both, every-at}
+use Rattle.curves.proofs.EveryLaws.{never-both, every-at}
 use Rattle.curves.proofs.WalkLaws.{Twice, pigeon, walk-zero, walk-add, walk-le}
 use Rattle.table.specs.declared.Names.{Names}
 use Rattle.table.specs.declared.Table.{Table}

@@ -3,16 +3,15 @@
 -- CallbackFits, TableFits, Writable: the tables that bytes can hold. length-written, header-written, tableAt-written, readFault-written: what was
 -- written is read back, and refused alike. one, run: bytes in a row. written-tableAt: what was read and accepted is written back.
 use mathlib.Core.Path.{_≡_, refl, sym, ap, ap₂, _∙_}
-use mathlib.Core.Bool.{Bool, true, false, cond, not, _&&_, _||_}
+use mathlib.Core.Bool.{true, false, not, _&&_}
 use mathlib.Core.Logic.{_⊎_, inl, inr}
 use mathlib.Core.List.{List, [], _∷_, _++_, append-assoc, append-nil}
 use Prim.Native.Nat.{ℕ, zero, suc, _≤_, _<_, _+_, _*_, _/_, _%_}
 use native.Mathlib.Nat.{add-assoc, add-zero, eq-or-lt-of-le, le-of-suc-le-suc}
 use native.Mathlib.Omega.{arith}
-use lib.Dec.{eqb, ltb, leb}
-use lib.ListN.{length, getD, take, drop, set, replicate, length-append, length-set, length-replicate, length-drop, getD-replicate, List·getD-append}
-use lib.Seq.{getD-append-add, getD-set-same, getD-set-other, ext-getD, drop-cons, drop-drop, take-add, take-all}
-use borrow.Author.Tests.{ltb-true, ltb-false, eqb-true, eq-eqb, le-ltb, not-true, not-false, leb-true}
+use lib.ListN.{length, getD, take, drop, replicate, length-append}
+use lib.Seq.{getD-append-add, ext-getD, drop-cons, drop-drop, take-add, take-all}
+use borrow.Author.Tests.{eq-eqb, le-ltb, not-false}
 use Rattle.curves.specs.Every.{every}
 use Rattle.curves.proofs.SumLaws.{le-or-lt}
 use Rattle.curves.proofs.EveryLaws.{and-holds}

@@ -1,13 +1,13 @@
 -- Refusals 2 to 14 over a table's values, in document 01's order, first match.
 -- What only bytes can show comes in as three tests: the length is off (4), a spare byte of the header (5), the records with a spare byte not zero (5).
-use mathlib.Core.Bool.{Bool, true, false, cond, not, _&&_, _||_}
+use mathlib.Core.Bool.{Bool, false, cond, not, _&&_, _||_}
 use Prim.Native.Nat.{ℕ, zero, suc}
 use lib.Dec.{eqb, ltb, leb}
 use lib.ListN.{getD}
 use Rattle.masks.specs.Mask.{has}
 use Rattle.curves.specs.Cost.{entry}
 use Rattle.curves.specs.Every.{every}
-use Rattle.curves.specs.Least.{lowest, lowestFrom}
+use Rattle.curves.specs.Least.{lowest}
 use Rattle.table.specs.declared.Callback.{Callback}
 use Rattle.table.specs.declared.Refusal.{Refusal}
 use Rattle.table.specs.declared.Table.{Table}

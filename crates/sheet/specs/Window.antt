@@ -2,7 +2,6 @@
 use mathlib.Core.Bool.{Bool}
 use Prim.Native.Nat.{ℕ, _-_}
 use lib.Dec.{leb}
-use Rattle.curves.specs.Sum.{sum}
 use Rattle.curves.specs.Least.{least, largest}
 use Rattle.curves.specs.Demand.{demand, limit}
 

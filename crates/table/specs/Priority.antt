@@ -3,7 +3,7 @@ use mathlib.Core.Bool.{Bool, true, false, _&&_, _||_}
 use Prim.Native.Nat.{ℕ, zero, suc}
 use lib.Dec.{eqb, ltb}
 use Rattle.masks.specs.Mask.{both, withBit, firstOf, gather}
-use Rattle.curves.specs.Least.{lowest, lowestFrom}
+use Rattle.curves.specs.Least.{lowest}
 use Rattle.table.specs.declared.Kinds.{Kinds}
 use Rattle.table.specs.declared.Table.{Table}
 use Rattle.table.specs.Numbers.{timer, subscription, service, client}

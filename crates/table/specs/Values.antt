@@ -1,5 +1,5 @@
 -- The values of a record and of a table, by slot (from 0); what a refusal is.
-use mathlib.Core.Bool.{Bool, true, false}
+use mathlib.Core.Bool.{true, false}
 use mathlib.Core.List.{List, []}
 use Prim.Native.Nat.{ℕ}
 use lib.ListN.{getD, take, replicate}

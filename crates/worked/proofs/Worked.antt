@@ -23,11 +23,10 @@ use Rattle.reader.specs.Format.{recordAt, spareAt, recordsTo, tableAt, sparesAt
 use Rattle.reader.specs.Written.{words, headerBytes, recordBytes, recordsBytes, written}
 use Rattle.sheet.specs.Window.{covered, coveredFor, window, finish, bound}
 use Rattle.sheet.specs.Sheet.{arrivalsOf, costOf, supplyOf, windowOf, boundOf, tooManyAt, sheetFault, analysisFault, sheetOf, boundsTo, rowOf}
-use Rattle.executor.specs.State.{fresh, beyondFault, countFault, cacheFault, slotFault, runFault, faulty}
-use Rattle.queues.specs.Choosing.{isPolled}
+use Rattle.executor.specs.State.{fresh, faulty}
+use Rattle.queues.specs.Choosing.{isPolled, gatheredOf, choose}
 use Rattle.faults.specs.Faults.{isBlank, tableFault, beyondWrong, cacheWrong, countWrong, runWrong, slotWrong}
 use Rattle.queues.specs.Queues.{arrivedTo, arrived, activated}
-use Rattle.queues.specs.Choosing.{gatheredOf, choose}
 use Rattle.executor.specs.Effect.{finishes, continues, worked, begun, served, effect}
 use Rattle.executor.specs.Tick.{foreign, nextActivated, full, tickFault, refused, tickOf}
 use Rattle.executor.specs.Start.{startOf}

@@ -1,6 +1,6 @@
 -- What the bytes passed so far give together is zero where each of them is.
 use mathlib.Core.Path.{_≡_, ap, _∙_}
-use Prim.Native.Nat.{ℕ, _≤_, _-_}
+use Prim.Native.Nat.{_≤_, _-_}
 use lib.Dec.{eqb}
 use denote.Ref.{now}
 use Rattle.lent.specs.Bytes.{zeros}

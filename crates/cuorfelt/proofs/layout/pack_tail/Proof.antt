@@ -1,6 +1,4 @@
 -- Six writes, one behind the other, are the bytes behind the table's place; the spare bytes were zero.
-use mathlib.Core.Path.{_≡_}
-use lib.ListN.{length}
 use denote.Ref.{now}
 use Rattle.cuorfelt.proofs.LayoutLaws.{pack-parts}
 use borrow.Author.Needs.{needs}

@@ -1,5 +1,5 @@
 -- After i steps the first i counts are in their places, and every other byte is as it was.
-use mathlib.Core.Path.{_≡_, refl, sym, ap, _∙_}
+use mathlib.Core.Path.{_≡_, refl, ap, _∙_}
 use mathlib.Core.List.{List}
 use Prim.Native.Nat.{ℕ, _≤_, _-_, _+_, _*_}
 use lib.ListN.{length, take, getD}

@@ -1,5 +1,4 @@
 -- Each part of the state is read from its place.
-use denote.Ref.{now}
 use Rattle.cuorfelt.proofs.LayoutLaws.{unpack-parts}
 use borrow.Author.Needs.{needs}
 use Rattle.cuorfelt.proofs.layout.unpack_with.Statement.{statement}
