@@ -64,14 +64,12 @@ module _ (t : Table) where
   spare-is i b l e = ap₂ (λ (x y : Bool). x && not y) (le-leb (t .count) i l) e
 
   pub spare-hit : (i : ℕ) → i < places → t .count ≤ i → isBlank (callbackAt t i) ≡ false → true ≡ spareFault t
-  unfolding spareFault
   spare-hit i h l e = sym (some-hit (isSpare t) places i h (spare-is i false l e))
 
   pub spare-more : (i : ℕ) → t .count ≤ i → some i (isSpare t) ≡ false → isBlank (callbackAt t i) ≡ true → some (i + 1) (isSpare t) ≡ false
   spare-more i l f e = some-more (isSpare t) i f (spare-is i true l e)
 
   pub spare-end : (i : ℕ) → places ≤ i → some i (isSpare t) ≡ false → false ≡ spareFault t
-  unfolding spareFault
   spare-end i l f = sym (some-fewer (isSpare t) places i f l)
 
 -- ---- the table
@@ -82,7 +80,7 @@ module _ (t : Table) (r : Refusal) (e : r ≡ faultOf t) where
   table-refused h = rw (ne-eqb ((faultOf t) .number) 0 (λ z. h (ap (λ (x : Refusal). x .number) e ∙ z)))
 
   pub table-read : r .number ≡ 0 → spareFault t ≡ tableFault t
-  unfolding tableFault spareFault
+  unfolding tableFault
   table-read z = rw (eq-eqb ((faultOf t) .number) 0 (ap (λ (x : Refusal). x .number) (sym e) ∙ z))
 
 -- ---- the table of accepted bytes
@@ -96,7 +94,7 @@ unfolding tableFault tableAt
 read-faultless b e =
     ap₂ _||_
     (ap (λ (r : Refusal). not (eqb (r .number) 0)) (read-accepted b e))
-    (some-none (λ i. leb (getD b 1 0) i && not (isBlank (callbackAt (tableAt b) i))) places (λ i l. go i l (leb (getD b 1 0) i) refl))
+    (some-none (isSpare (tableAt b)) places (λ i l. go i l (leb (getD b 1 0) i) refl))
   where
     go : (i : ℕ) → i < places → (x : Bool) → leb (getD b 1 0) i ≡ x → (x && not (isBlank (callbackAt (tableAt b) i))) ≡ false
     go i l true f = ap not (ap isBlank (read-blank b e i (leb-true (getD b 1 0) i f) l) ∙ blank-is)

@@ -11,22 +11,26 @@ use Rattle.table.specs.Values.{callbackAt}
 use Rattle.reader.specs.Rules.{faultOf, within}
 use Rattle.queues.specs.Numbers.{mostWaiting, largestCost}
 
+-- every cost entry of a place is zero
+abbrev pub noEntries : Callback → Bool
+noEntries c = every entryPlaces (λ k. eqb (getD (c .cost) k 0) 0)
+
 -- whether a place holds no callback
 unfoldable pub isBlank : Callback → Bool
 isBlank c =
     (eqb (c .kind) 0 && (eqb (c .next) 0 && eqb (c .entries) 0))
-    && ((eqb (c .period) 0 && (eqb (c .jitter) 0 && eqb (c .distance) 0)) && every entryPlaces (λ k. eqb (getD (c .cost) k 0) 0))
-
--- "its table is one the reader refuses", or none that a reader gives: a place beyond n is not blank
-unfoldable pub tableFault : Table → Bool
-tableFault t = not (eqb ((faultOf t) .number) 0) || some places (λ i. leb (t .count) i && not (isBlank (callbackAt t i)))
+    && ((eqb (c .period) 0 && (eqb (c .jitter) 0 && eqb (c .distance) 0)) && noEntries c)
 
 -- a place beyond n that is not blank; one of them
 abbrev pub isSpare : Table → ℕ → Bool
 isSpare t i = leb (t .count) i && not (isBlank (callbackAt t i))
 
-unfoldable pub spareFault : Table → Bool
+abbrev pub spareFault : Table → Bool
 spareFault t = some places (isSpare t)
+
+-- "its table is one the reader refuses", or none that a reader gives: a place beyond n is not blank
+unfoldable pub tableFault : Table → Bool
+tableFault t = not (eqb ((faultOf t) .number) 0) || spareFault t
 
 -- a slot, from whether it lies beyond n, is cached, runs and is polled, its waiting and finished counts, and the ticks taken:
 -- "a callback beyond n .. is cached or has a waiting or finished count not 0"
@@ -50,7 +54,3 @@ slotWrong beyond cached running polled w f clock =
 -- "a callback beyond n runs"; "the units left are not 1 to 60,000 while something runs, or not 0 while nothing does"
 unfoldable pub runWrong : ℕ → ℕ → ℕ → Bool
 runWrong n running units = ltb n running || cond (eqb running 0) (not (eqb units 0)) (not (within 1 largestCost units))
-
--- every cost entry of a place is zero
-abbrev pub noEntries : Callback → Bool
-noEntries c = every entryPlaces (λ k. eqb (getD (c .cost) k 0) 0)
