@@ -1,22 +1,19 @@
 -- What the exported functions are made of, test by test. Assumes nothing.
--- not-laid, is-laid, laid-no, laid-yes, not-zero, part-number, part-table: what unpacking gives.
 -- analysed: the analyser. start-short, start-size, start-refused, start-done, start-new: a start. said-parts, tick-none, tick-refused, tick-done: a tick.
-use mathlib.Core.Path.{_≡_, refl, sym, ap, _∙_}
-use mathlib.Core.Bool.{Bool, true, false, not}
+use mathlib.Core.Path.{_≡_, sym, ap, _∙_}
+use mathlib.Core.Bool.{Bool, false}
 use mathlib.Core.List.{List, _++_}
 use Prim.Native.Nat.{ℕ, _<_, _≤_, _-_}
 use native.Mathlib.Omega.{arith}
 use lib.ListN.{length, getD, replicate, length-replicate, length-append}
-use borrow.Author.Tests.{eq-eqb, ne-eqb, not-true}
-use Rattle.curves.proofs.EveryLaws.{never-both}
+use borrow.Author.Tests.{eq-eqb, ne-eqb}
 use Rattle.lent.specs.Over.{over}
 use Rattle.lent.proofs.Replace.{over-over, over-all}
-use Rattle.reader.specs.declared.Reading.{Reading}
 use Rattle.table.specs.declared.Refusal.{Refusal}
 use Rattle.table.specs.declared.Table.{Table}
 use Rattle.table.specs.Numbers.{places}
 use Rattle.table.specs.Values.{refuse}
-use Rattle.reader.specs.Format.{tableAt, readFault, readOf}
+use Rattle.reader.specs.Format.{readFault}
 use Rattle.reader.proofs.Accepted.{reading-is, read-table, read-fits, read-few}
 use Rattle.sheet.specs.declared.Sheet.{Sheet}
 use Rattle.sheet.specs.Sheet.{sheetOf}
@@ -32,53 +29,10 @@ use Rattle.executor.specs.Tick.{tickOf}
 use Rattle.cuorfelt.specs.declared.Analysed.{Analysed}
 use Rattle.cuorfelt.specs.declared.Refused.{Refused}
 use Rattle.cuorfelt.specs.declared.Said.{Said}
-use Rattle.cuorfelt.specs.declared.Unpacked.{Unpacked}
-use Rattle.cuorfelt.specs.Layout.{stateLength, waitingStart, tablePart, laidOut, unpacked, notLaid, unpacking, packedTail, packed}
+use Rattle.layout.specs.Layout.{stateLength, waitingStart, laidOut, unpacked, packedTail, packed}
 use Rattle.cuorfelt.specs.Edge.{refusedBy, sheetSaid, startFault, startSaid, stateStarted, flag, saidOf, saidBy, noState, isSupplied, tickSaid, stateTicked}
-use Rattle.cuorfelt.proofs.LayoutLaws.{Laid, laid, laid-out, packed-fresh, packed-over}
+use Rattle.layout.proofs.LayoutLaws.{Laid, laid-out, packed-fresh, packed-over}
 use Rattle.cuorfelt.proofs.TickLaws.{tick-table}
-
--- ---- unpacking
-
-pub not-laid : (b : List ℕ) → (Laid b → ⊥) → notLaid ≡ unpacking b
-unfolding unpacking
-not-laid b h = go (laidOut b) refl
-  where
-    go : (x : Bool) → laidOut b ≡ x → notLaid ≡ unpacking b
-    go true e = absurd (h (laid b e))
-    go false e = rw (e, unpacking)
-
-pub is-laid : (b : List ℕ) → Laid b → unpacking b ≡ record { laid = true; machine = unpacked b }
-unfolding unpacking
-is-laid b l = rw (laid-out b l, unpacking)
-
-laid-is : (b : List ℕ) → (unpacking b) .laid ≡ laidOut b
-unfolding unpacking
-laid-is b = go (laidOut b) refl
-  where
-    go : (x : Bool) → laidOut b ≡ x → (unpacking b) .laid ≡ x
-    go true e = rw (e, unpacking)
-    go false e = rw (e, unpacking)
-
-pub laid-no : (b : List ℕ) {u : Unpacked} → u ≡ unpacking b → u .laid ≡ false → laidOut b ≡ false
-laid-no b e f = sym (laid-is b) ∙ ap (λ (u : Unpacked). u .laid) (sym e) ∙ f
-
-pub laid-yes : (b : List ℕ) {u : Unpacked} → u ≡ unpacking b → u .laid ≡ true → Laid b
-laid-yes b e f = laid b (sym (laid-is b) ∙ ap (λ (u : Unpacked). u .laid) (sym e) ∙ f)
-
-pub laid-machine : (b : List ℕ) {u : Unpacked} → u ≡ unpacking b → u .laid ≡ true → u .machine ≡ unpacked b
-laid-machine b e f = ap (λ (u : Unpacked). u .machine) (e ∙ is-laid b (laid-yes b e f))
-
--- a test for zeros that fails
-pub not-zero : (x y : Bool) → x ≡ y → not x ≡ true → y ≡ true → ⊥
-not-zero x y e f g = never-both x (e ∙ g) (not-true x f)
-
--- a table read from its own part
-pub part-number : (b : List ℕ) {x : List ℕ} {r : Reading} → r ≡ readOf x → x ≡ tablePart b → r .refusal .number ≡ (readFault (tablePart b)) .number
-part-number b e f = ap (λ (r : Reading). r .refusal .number) (e ∙ ap readOf f) ∙ ap (λ (r : Refusal). r .number) (reading-is (tablePart b))
-
-pub part-table : (b : List ℕ) {x : List ℕ} {r : Reading} → r ≡ readOf x → x ≡ tablePart b → r .refusal .number ≡ 0 → r .table ≡ tableAt (tablePart b)
-part-table b e f g = ap (λ (r : Reading). r .table) (e ∙ ap readOf f) ∙ read-table (tablePart b) (sym (part-number b e f) ∙ g)
 
 -- ---- the analyser
 

@@ -38,7 +38,7 @@ use Rattle.executor.specs.Effect.{after, instanceAt, finishes, continues, worke
 use Rattle.executor.specs.Tick.{tickFault, refused, tickOf}
 use Rattle.faults.proofs.ValueLaws.{some-miss}
 use Rattle.queues.proofs.ArrivedLaws.{arrived-length, arrived-at}
-use Rattle.cuorfelt.proofs.LayoutLaws.{MachineFits}
+use Rattle.layout.proofs.LayoutLaws.{MachineFits}
 
 -- a list of zeros
 none : (n i : ℕ) → _≡_ {A = ℕ} (getD (replicate n 0) i 0) 0

@@ -22,10 +22,10 @@ use Rattle.executor.specs.declared.Ticked.{Ticked}
 use Rattle.executor.specs.State.{fresh}
 use Rattle.executor.specs.Start.{startOf}
 use Rattle.cuorfelt.specs.declared.Said.{Said}
-use Rattle.cuorfelt.specs.Layout.{stateLength, packed}
+use Rattle.layout.specs.Layout.{stateLength, packed}
 use Rattle.cuorfelt.specs.Edge.{stateStarted, flag, saidOf, saidBy, isSupplied, tickSaid, stateTicked}
 use Rattle.cuorfelt.specs.Lent.{Call, called, saidIn, saidFrom, heard}
-use Rattle.cuorfelt.proofs.LayoutLaws.{MachineFits, laid-packed, unpacked-packed}
+use Rattle.layout.proofs.LayoutLaws.{MachineFits, laid-packed, unpacked-packed}
 use Rattle.cuorfelt.proofs.TickLaws.{tick-table, number, refused-keeps}
 use Rattle.cuorfelt.proofs.EdgeLaws.{start-new}
 use Rattle.cuorfelt.proofs.FitsLaws.{fits-read, writable-read, fits-fresh, fits-ticked}

@@ -1,8 +1,5 @@
--- Runs: numbers of one width, one after the other. LayoutLaws: packing and unpacking a state are inverse to each other.
 -- TickLaws: a tick keeps the table. EdgeLaws: the parts of the exported functions. FitsLaws: a machine's values stay in the ranges of their types.
 -- Lent: a history in lent bytes says what the same history by value says.
-pub mod Runs
-pub mod LayoutLaws
 pub mod TickLaws
 pub mod EdgeLaws
 pub mod FitsLaws

@@ -17,7 +17,7 @@ use Rattle.executor.specs.Tick.{tickOf}
 use Rattle.cuorfelt.specs.declared.Analysed.{Analysed}
 use Rattle.cuorfelt.specs.declared.Refused.{Refused}
 use Rattle.cuorfelt.specs.declared.Said.{Said}
-use Rattle.cuorfelt.specs.Layout.{stateLength, laidOut, unpacked, packed}
+use Rattle.layout.specs.Layout.{stateLength, laidOut, unpacked, packed}
 
 -- a refusal as a host sees it
 abbrev pub refusedBy : Refusal → Refused

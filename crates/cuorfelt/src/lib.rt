@@ -1,5 +1,5 @@
 // The edge for hosts written in C: reader, analyser and machine on numbers and lent slices, the machine's state packed in lent bytes.
-// numbers: length and layout of the state. layout: the state packed and unpacked. include/cuorfelt.h declares what is exported here.
+// include/cuorfelt.h declares what is exported here.
 
 ghost use mathlib.Core.Path.{_≡_};
 ghost use mathlib.Core.Bool.{Bool};
@@ -7,11 +7,8 @@ ghost use Prim.Native.Nat.{ℕ};
 ghost use lib.ListN.{length};
 ghost use Rattle.table.specs.Values.{refuse};
 ghost use Rattle.sheet.specs.Sheet.{rowOf};
-ghost use Rattle.cuorfelt.specs.Layout.{stateLength};
+ghost use Rattle.layout.specs.Layout.{stateLength};
 ghost use Rattle.cuorfelt.specs.Edge.{refusedBy, readSaid, sheetSaid, startSaid, stateStarted, flag, saidOf, noState, tickSaid, stateTicked};
-
-mod layout;
-mod numbers;
 
 // A refusal; number 0 where nothing is refused.
 #[repr(C)]
@@ -42,12 +39,6 @@ pub struct Said {
     pub gathered: u8,
 }
 
-// What unpacking gives: whether the bytes are laid out as a state, and the state, a blank one where they are not.
-pub struct Unpacked {
-    pub laid: bool,
-    pub machine: executor::Machine,
-}
-
 // A refusal as a host sees it.
 fn refusal(from: table::Refusal) -> Refused
     ensures { λ r. ⌜ r ≡ refusedBy from ⌝ }
@@ -63,7 +54,7 @@ fn refusal(from: table::Refusal) -> Refused
 pub extern "C" fn cuorfelt_state_length() -> usize
     ensures { λ r. ⌜ r ≡ stateLength ⌝ }
 {
-    numbers::STATE_LENGTH
+    layout::numbers::STATE_LENGTH
 }
 
 // The refusal of a table's bytes, 1 to 14, or number 0.
@@ -106,7 +97,7 @@ pub extern "C" fn cuorfelt_analyse(table: &[u8], row: &mut [u16]) -> Analysed
 pub extern "C" fn cuorfelt_start(table: &[u8], state: &mut [u8]) -> Refused
     ensures { λ r. ⌜ (r ≡ startSaid (now (table .entry)) (now (state .entry))) × (now (state .exit) ≡ stateStarted (now (table .entry)) (now (state .entry))) ⌝ }
 {
-    if state.len() != numbers::STATE_LENGTH {
+    if state.len() != layout::numbers::STATE_LENGTH {
         return Refused {
             number: queues::numbers::FAULTY_STATE,
             index: 0,
@@ -119,7 +110,7 @@ pub extern "C" fn cuorfelt_start(table: &[u8], state: &mut [u8]) -> Refused
     }
     lent::copy(state, 0, table);
     let end = table.len();
-    lent::zero(state, end, numbers::STATE_LENGTH - end);
+    lent::zero(state, end, layout::numbers::STATE_LENGTH - end);
     refusal(why)
 }
 

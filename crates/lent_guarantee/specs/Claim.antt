@@ -12,7 +12,7 @@ use Rattle.guarantee.specs.History.{Tick, Said}
 use Rattle.guarantee.specs.Within.{WithinCurves}
 use Rattle.guarantee.specs.Claim.{Kept}
 use Rattle.cuorfelt.specs.declared.Said as edge
-use Rattle.cuorfelt.specs.Layout.{stateLength}
+use Rattle.layout.specs.Layout.{stateLength}
 use Rattle.cuorfelt.specs.Edge.{isSupplied, stateStarted}
 use Rattle.cuorfelt.specs.Lent.{Call, saidIn, heard}
 

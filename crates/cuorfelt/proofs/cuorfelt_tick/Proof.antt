@@ -2,10 +2,11 @@
 use mathlib.Core.Path.{ap, _∙_}
 use Rattle.executor.specs.declared.Machine.{Machine}
 use Rattle.faults.specs.Faults.{tableFault}
-use Rattle.cuorfelt.proofs.LayoutLaws.{table-faultless}
+use Rattle.layout.proofs.LayoutLaws.{table-faultless}
 use native.Mathlib.Omega.{arith}
 use borrow.Author.Tests.{not-true, not-false}
-use Rattle.cuorfelt.proofs.EdgeLaws.{laid-no, laid-yes, laid-machine, tick-none, tick-refused, tick-done}
+use Rattle.layout.proofs.UnpackingLaws.{laid-no, laid-yes, laid-machine}
+use Rattle.cuorfelt.proofs.EdgeLaws.{tick-none, tick-refused, tick-done}
 use borrow.Author.Needs.{needs}
 use Rattle.cuorfelt.proofs.cuorfelt_tick.Statement.{statement}
 use Rattle.cuorfelt.proofs.cuorfelt_tick.Tie as tie

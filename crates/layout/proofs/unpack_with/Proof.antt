@@ -1,8 +1,8 @@
 -- Each part of the state is read from its place.
-use Rattle.cuorfelt.proofs.LayoutLaws.{unpack-parts}
+use Rattle.layout.proofs.LayoutLaws.{unpack-parts}
 use borrow.Author.Needs.{needs}
-use Rattle.cuorfelt.proofs.layout.unpack_with.Statement.{statement}
-use Rattle.cuorfelt.proofs.layout.unpack_with.Tie as tie
+use Rattle.layout.proofs.unpack_with.Statement.{statement}
+use Rattle.layout.proofs.unpack_with.Tie as tie
 
 get-waiting-requires : tie.Need-get-waiting-requires
 get-waiting-requires c κs = search needs

@@ -6,10 +6,10 @@ use lib.Seq.{take-all}
 use denote.Ref.{now}
 use native.Mathlib.Omega.{arith}
 use borrow.Author.Needs.{needs}
-use Rattle.cuorfelt.specs.Layout.{finishedStart, get4s}
-use Rattle.cuorfelt.proofs.Runs.{four-bytes, gets-step}
-use Rattle.cuorfelt.proofs.layout.get_finished.Statement.{statement}
-use Rattle.cuorfelt.proofs.layout.get_finished.Tie as tie
+use Rattle.layout.specs.Layout.{finishedStart, get4s}
+use Rattle.layout.proofs.Runs.{four-bytes, gets-step}
+use Rattle.layout.proofs.get_finished.Statement.{statement}
+use Rattle.layout.proofs.get_finished.Tie as tie
 
 abbrev Inv-loop : tie.InvT-loop
 Inv-loop state counts₀ i₀ counts i = (i ≤ 16) × (length counts ≡ 16) × (take i counts ≡ get4s state finishedStart i)

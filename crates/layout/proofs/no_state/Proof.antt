@@ -1,8 +1,8 @@
 -- All zero.
 use mathlib.Core.Path.{refl}
 use Rattle.executor.specs.State.{fresh}
-use Rattle.cuorfelt.proofs.layout.no_state.Statement.{statement}
-use Rattle.cuorfelt.proofs.layout.no_state.Tie as tie
+use Rattle.layout.proofs.no_state.Statement.{statement}
+use Rattle.layout.proofs.no_state.Tie as tie
 
 returns : tie.Need-returns
 unfolding fresh

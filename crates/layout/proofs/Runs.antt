@@ -16,7 +16,7 @@ use Rattle.lent.proofs.Replace.{over-nil, over-over}
 use Rattle.lent.proofs.Trip.{get2-le2, get4-le4, le2-get2, le4-get4}
 use Rattle.reader.specs.Written.{words}
 use Rattle.reader.proofs.WrittenLaws.{past, get2-past}
-use Rattle.cuorfelt.specs.Layout.{get2s, get4s, longs}
+use Rattle.layout.specs.Layout.{get2s, get4s, longs}
 
 pub record Coded (w top : ℕ) (le : ℕ → List ℕ) (get : List ℕ → ℕ → ℕ) (all : List ℕ → List ℕ) (gets : List ℕ → ℕ → ℕ → List ℕ) : Type 0 where
   pub wide : (x : ℕ) → length (le x) ≡ w

@@ -37,8 +37,8 @@ use Rattle.executor.specs.declared.Machine.{Machine}
 use Rattle.faults.proofs.ValueLaws.{read-faultless, some-miss}
 use Rattle.executor.specs.State.{fresh, faulty}
 use Rattle.faults.specs.Faults.{isBlank, tableFault}
-use Rattle.cuorfelt.specs.Layout.{stateLength, waitingStart, finishedStart, clockStart, cacheStart, unitsStart, runningStart, spareStart, spareBytes, get2s, get4s, longs, tableEnd, tablePart, laidOut, unpackedWith, unpacked, packedTail, packed}
-use Rattle.cuorfelt.proofs.Runs.{two-bytes, four-bytes, length-all, get-one, gets-all, all-gets}
+use Rattle.layout.specs.Layout.{stateLength, waitingStart, finishedStart, clockStart, cacheStart, unitsStart, runningStart, spareStart, spareBytes, get2s, get4s, longs, tableEnd, tablePart, laidOut, unpackedWith, unpacked, packedTail, packed}
+use Rattle.layout.proofs.Runs.{two-bytes, four-bytes, length-all, get-one, gets-all, all-gets}
 
 -- ---- the parts of laidOut
 

@@ -12,7 +12,7 @@ use Rattle.reader.specs.Format.{recordStart, readFault, tableAt}
 use Rattle.reader.specs.Written.{words, written}
 use Rattle.executor.specs.declared.Machine.{Machine}
 use Rattle.executor.specs.State.{fresh, faulty}
-use Rattle.cuorfelt.specs.declared.Unpacked.{Unpacked}
+use Rattle.layout.specs.declared.Unpacked.{Unpacked}
 
 abbrev pub stateLength : ℕ
 stateLength = 640

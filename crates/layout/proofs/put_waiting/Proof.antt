@@ -10,10 +10,10 @@ use borrow.Author.Needs.{needs}
 use Rattle.lent.specs.Bytes.{le2}
 use Rattle.lent.specs.Over.{over}
 use Rattle.reader.specs.Written.{words}
-use Rattle.cuorfelt.specs.Layout.{waitingStart}
-use Rattle.cuorfelt.proofs.Runs.{two-bytes, all-start, all-step}
-use Rattle.cuorfelt.proofs.layout.put_waiting.Statement.{statement}
-use Rattle.cuorfelt.proofs.layout.put_waiting.Tie as tie
+use Rattle.layout.specs.Layout.{waitingStart}
+use Rattle.layout.proofs.Runs.{two-bytes, all-start, all-step}
+use Rattle.layout.proofs.put_waiting.Statement.{statement}
+use Rattle.layout.proofs.put_waiting.Tie as tie
 
 abbrev Inv-loop : tie.InvT-loop
 Inv-loop state₀ counts i₀ state i = (i ≤ 16) × (length state ≡ length state₀) × (state ≡ over state₀ waitingStart (words (take i counts)))

@@ -1,9 +1,9 @@
 -- Six writes, one behind the other, are the bytes behind the table's place; the spare bytes were zero.
 use denote.Ref.{now}
-use Rattle.cuorfelt.proofs.LayoutLaws.{pack-parts}
+use Rattle.layout.proofs.LayoutLaws.{pack-parts}
 use borrow.Author.Needs.{needs}
-use Rattle.cuorfelt.proofs.layout.pack_tail.Statement.{statement}
-use Rattle.cuorfelt.proofs.layout.pack_tail.Tie as tie
+use Rattle.layout.proofs.pack_tail.Statement.{statement}
+use Rattle.layout.proofs.pack_tail.Tie as tie
 
 put-waiting-requires : tie.Need-put-waiting-requires
 put-waiting-requires c κs = search needs

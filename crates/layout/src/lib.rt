@@ -1,15 +1,14 @@
-// The state in lent bytes, as docs/STATE.md lays it out.
+// The machine's state packed in lent bytes and unpacked, as docs/STATE.md lays it out. numbers: its length, and where each part begins.
 
-use super::Unpacked;
-use super::numbers::CACHE_START;
-use super::numbers::CLOCK_START;
-use super::numbers::FINISHED_START;
-use super::numbers::RUNNING_START;
-use super::numbers::SPARE_START;
-use super::numbers::STATE_LENGTH;
-use super::numbers::UNITS_START;
-use super::numbers::WAITING_START;
 use executor::Machine;
+use numbers::CACHE_START;
+use numbers::CLOCK_START;
+use numbers::FINISHED_START;
+use numbers::RUNNING_START;
+use numbers::SPARE_START;
+use numbers::STATE_LENGTH;
+use numbers::UNITS_START;
+use numbers::WAITING_START;
 use table::Table;
 use table::numbers::HEADER_LENGTH;
 use table::numbers::PLACES;
@@ -21,7 +20,15 @@ ghost use lib.ListN.{length};
 ghost use Rattle.lent.specs.Bytes.{zeros};
 ghost use Rattle.lent.specs.Over.{over};
 ghost use Rattle.reader.specs.Written.{words};
-ghost use Rattle.cuorfelt.specs.Layout.{stateLength, waitingStart, finishedStart, spareStart, spareBytes, get2s, get4s, longs, unpackedWith, notLaid, unpacking, packedTail};
+ghost use Rattle.layout.specs.Layout.{stateLength, waitingStart, finishedStart, spareStart, spareBytes, get2s, get4s, longs, unpackedWith, notLaid, unpacking, packedTail};
+
+pub mod numbers;
+
+// What unpacking gives: whether the bytes are laid out as a state, and the state, a blank one where they are not.
+pub struct Unpacked {
+    pub laid: bool,
+    pub machine: Machine,
+}
 
 // The sixteen waiting counts.
 fn get_waiting(state: &[u8]) -> [u16; 16]

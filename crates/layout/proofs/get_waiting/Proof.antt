@@ -6,10 +6,10 @@ use lib.Seq.{take-all}
 use denote.Ref.{now}
 use native.Mathlib.Omega.{arith}
 use borrow.Author.Needs.{needs}
-use Rattle.cuorfelt.specs.Layout.{waitingStart, get2s}
-use Rattle.cuorfelt.proofs.Runs.{two-bytes, gets-step}
-use Rattle.cuorfelt.proofs.layout.get_waiting.Statement.{statement}
-use Rattle.cuorfelt.proofs.layout.get_waiting.Tie as tie
+use Rattle.layout.specs.Layout.{waitingStart, get2s}
+use Rattle.layout.proofs.Runs.{two-bytes, gets-step}
+use Rattle.layout.proofs.get_waiting.Statement.{statement}
+use Rattle.layout.proofs.get_waiting.Tie as tie
 
 abbrev Inv-loop : tie.InvT-loop
 Inv-loop state counts₀ i₀ counts i = (i ≤ 16) × (length counts ≡ 16) × (take i counts ≡ get2s state waitingStart i)

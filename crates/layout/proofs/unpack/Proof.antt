@@ -9,12 +9,12 @@ use mathlib.Core.Bool.{true}
 use borrow.Author.Tests.{not-false}
 use Rattle.table.specs.declared.Table.{Table}
 use Rattle.executor.specs.declared.Machine.{Machine}
-use Rattle.cuorfelt.specs.Layout.{tableEnd, tablePart, unpackedWith}
-use Rattle.cuorfelt.proofs.LayoutLaws.{Laid, end-before}
-use Rattle.cuorfelt.proofs.EdgeLaws.{not-laid, is-laid, not-zero, part-number, part-table}
+use Rattle.layout.specs.Layout.{tableEnd, tablePart, unpackedWith}
+use Rattle.layout.proofs.LayoutLaws.{Laid, end-before}
+use Rattle.layout.proofs.UnpackingLaws.{not-laid, is-laid, not-zero, part-number, part-table}
 use borrow.Author.Needs.{needs}
-use Rattle.cuorfelt.proofs.layout.unpack.Statement.{statement}
-use Rattle.cuorfelt.proofs.layout.unpack.Tie as tie
+use Rattle.layout.proofs.unpack.Statement.{statement}
+use Rattle.layout.proofs.unpack.Tie as tie
 
 no-state-requires : tie.Need-no-state-requires
 no-state-requires c κs = search needs

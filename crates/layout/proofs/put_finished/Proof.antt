@@ -9,10 +9,10 @@ use native.Mathlib.Omega.{arith}
 use borrow.Author.Needs.{needs}
 use Rattle.lent.specs.Bytes.{le4}
 use Rattle.lent.specs.Over.{over}
-use Rattle.cuorfelt.specs.Layout.{finishedStart, longs}
-use Rattle.cuorfelt.proofs.Runs.{four-bytes, all-start, all-step}
-use Rattle.cuorfelt.proofs.layout.put_finished.Statement.{statement}
-use Rattle.cuorfelt.proofs.layout.put_finished.Tie as tie
+use Rattle.layout.specs.Layout.{finishedStart, longs}
+use Rattle.layout.proofs.Runs.{four-bytes, all-start, all-step}
+use Rattle.layout.proofs.put_finished.Statement.{statement}
+use Rattle.layout.proofs.put_finished.Tie as tie
 
 abbrev Inv-loop : tie.InvT-loop
 Inv-loop state₀ counts i₀ state i = (i ≤ 16) × (length state ≡ length state₀) × (state ≡ over state₀ finishedStart (longs (take i counts)))

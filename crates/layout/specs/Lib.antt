@@ -1,0 +1,2 @@
+-- Layout: the state in lent bytes.
+pub mod Layout
