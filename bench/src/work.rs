@@ -126,6 +126,7 @@ pub fn all() -> Vec<Work> {
         desk_history(),
         busy_history(&mut random),
         chain_history(&mut random),
+        lone_history(&mut random),
     ];
     works.extend(repeated());
     works
@@ -229,6 +230,16 @@ fn chain_history(random: &mut Random) -> Work {
     greedy_history("one chain of 16, greedy", random, &chain())
 }
 
+/// A single callback: what the tick costs whatever the table.
+fn lone_history(random: &mut Random) -> Work {
+    let mut table = longest();
+    table.callbacks.truncate(1);
+    table.callbacks[0].entries = vec![5];
+    table.callbacks[0].period = 12;
+    table.callbacks[0].distance = 12;
+    greedy_history("one callback, greedy", random, &table)
+}
+
 /// The same sixteen in a loop: no head, and refused by the reader.
 fn looped() -> Table {
     let mut table = chain();
@@ -241,6 +252,9 @@ fn repeated() -> Vec<Work> {
     let state = packed(&start(&encode(&longest())).state);
     let mut damaged = state.clone();
     damaged[630] = 1;
+    let mut full = start(&encode(&longest())).state;
+    full.waiting = [255; PLACES];
+    let full = packed(&full);
     let mut looped_state = packed(&start(&encode(&chain())).state);
     looped_state[..HEADER_BYTES + RECORD_BYTES * PLACES].copy_from_slice(&encode(&looped()));
     vec![
@@ -249,6 +263,11 @@ fn repeated() -> Vec<Work> {
             "16 callbacks, refused with 19",
             state,
             vec![(0, 1, 0); 1_000],
+        ),
+        Work::ticks(
+            "16 callbacks, refused with 21",
+            full,
+            vec![(u16::MAX, 1, 1); 1_000],
         ),
         Work::ticks(
             "16 callbacks, refused with 29",
