@@ -12,10 +12,9 @@ use Rattle.curves.proofs.EveryLaws.{some-hit}
 use Rattle.table.specs.Numbers.{places, timer}
 use Rattle.table.specs.Values.{kindOf}
 use Rattle.executor.specs.declared.Machine.{Machine}
-use Rattle.executor.specs.State.{waitingOf, finishedAt, slotFault, runFault, faulty}
+use Rattle.executor.specs.State.{waitingOf, finishedAt, slotFault, runFault, faulty, stateFault}
 use Rattle.queues.specs.Choosing.{isPolled}
 use Rattle.faults.specs.Faults.{tableFault, slotWrong, runWrong}
-use Rattle.executor.specs.Work.{stateFault}
 use Rattle.faults.proofs.ValueLaws.{some-fewer}
 
 module _ (m : Machine) where
@@ -27,15 +26,12 @@ module _ (m : Machine) where
   slot-is i cached b e f = rw (← e, ← add-one) (sym f)
 
   pub state-run : (b : Bool) → b ≡ runWrong (m .table .count) (m .running) (m .units) → b ≡ true → true ≡ stateFault m
-  unfolding stateFault
   state-run b e f = rw (← e, f)
 
   pub state-slot : (i : ℕ) → i < places → slotFault m i ≡ true → true ≡ stateFault m
-  unfolding stateFault
   state-slot i l e = rw (some-hit (slotFault m) places i l e) (sym (or-true (runFault m)))
 
   pub state-right : (b : Bool) → b ≡ runWrong (m .table .count) (m .running) (m .units) → b ≡ false → (i : ℕ) → places ≤ i → some i (slotFault m) ≡ false → false ≡ stateFault m
-  unfolding stateFault
   state-right b e f i l g = rw (← e, f, some-fewer (slotFault m) places i g l)
 
 module _ (m : Machine) (b : Bool) (e : b ≡ tableFault (m .table)) where
@@ -44,7 +40,7 @@ module _ (m : Machine) (b : Bool) (e : b ≡ tableFault (m .table)) where
   faulty-table f = rw (← e, f)
 
   pub faulty-state : b ≡ false → stateFault m ≡ faulty m
-  unfolding faulty stateFault
+  unfolding faulty
   faulty-state f = rw (← e, f)
 
 -- of a state whose table is known to be right

@@ -29,9 +29,8 @@ use Rattle.answers.specs.Reply.{finishedOf}
 use Rattle.queues.specs.Choosing.{isPolled, choose, gatheredOf, pollingPoint}
 use Rattle.queues.specs.Queues.{waits, arrived, fullWith}
 use Rattle.executor.specs.Effect.{finishes, continues, worked, begun, served, effect, after, answered}
-use Rattle.executor.specs.Tick.{foreign, nextActivated, full}
+use Rattle.executor.specs.Tick.{foreign, nextAfter, full}
 use Rattle.executor.specs.Work.{Ready}
-use Rattle.executor.specs.Admitted.{nextAfter}
 use Rattle.queues.proofs.ChooseLaws.{foremost-hit, chosenOf}
 
 -- ---- who is activated
@@ -140,7 +139,7 @@ module _ (m : Machine) (ok : Ready mostWaiting m) where
 -- refusal 21 of a tick
 pub full-law : (m : Machine) (mask : ℕ) (supplied : Bool) (cost : ℕ)
     → fullWith (m .waiting) mask (nextAfter (m .table) (finishedOf ((effect m mask supplied cost) .reply))) ≡ full m mask supplied cost
-unfolding full fullWith nextActivated nextAfter
+unfolding full
 full-law m mask supplied cost = refl
 
 -- what the code finds on the way to it

@@ -20,9 +20,9 @@ use Rattle.reader.specs.Rules.{within, faultOf}
 use Rattle.reader.proofs.Sound.{Sound, sound}
 use Rattle.executor.specs.declared.Machine.{Machine}
 use Rattle.queues.specs.Numbers.{mostTicks, mostWaiting, largestCost}
-use Rattle.executor.specs.State.{waitingOf, finishedAt, runs, beyondFault, countFault, cacheFault, slotFault, runFault}
+use Rattle.executor.specs.State.{waitingOf, finishedAt, runs, beyondFault, countFault, cacheFault, slotFault, runFault, stateFault}
 use Rattle.faults.specs.Faults.{isBlank, tableFault, cacheWrong, countWrong, runWrong, slotWrong, isSpare}
-use Rattle.executor.specs.Work.{Ready, stateFault}
+use Rattle.executor.specs.Work.{Ready}
 use Rattle.faults.proofs.ValueLaws.{some-miss}
 
 -- ---- the table
@@ -65,7 +65,6 @@ positive (suc w) e = omega arith
 
 module _ (m : Machine) (right : stateFault m ≡ false) where
   halves : (runFault m ≡ false) × (some places (slotFault m) ≡ false)
-  unfolding stateFault
   halves = or-fails (runFault m) (some places (slotFault m)) right
 
   module _ (i : ℕ) (l : i < places) where

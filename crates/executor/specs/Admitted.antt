@@ -1,17 +1,12 @@
 -- The tick past the refusals 29 to 20, beside the definitions of Tick.
 use mathlib.Core.Bool.{Bool}
 use Prim.Native.Nat.{ℕ, zero, suc}
-use Rattle.table.specs.declared.Table.{Table}
-use Rattle.table.specs.Values.{refuse, nextOf}
+use Rattle.table.specs.Values.{refuse}
 use Rattle.executor.specs.declared.Machine.{Machine}
 use Rattle.executor.specs.declared.Ticked.{Ticked}
 use Rattle.queues.specs.Numbers.{queueFull}
 use Rattle.executor.specs.Effect.{effect}
 use Rattle.executor.specs.Tick.{full, refused}
-
--- next of the callback of an index; 0 where the index is
-unfoldable pub nextAfter : Table → ℕ → ℕ
-nextAfter t x = elim x [ zero ↦ 0 | suc i ↦ nextOf t i ]
 
 -- refusal 21, or the effect
 unfoldable pub admitted : Machine → ℕ → Bool → ℕ → Ticked

@@ -43,6 +43,10 @@ slotFault m i = slotWrong (leb (m .table .count) i) (has (m .cache) i) (runs m i
 abbrev pub runFault : Machine → Bool
 runFault m = runWrong (m .table .count) (m .running) (m .units)
 
+-- the faults of a state around its table
+abbrev pub stateFault : Machine → Bool
+stateFault m = runFault m || some places (slotFault m)
+
 -- 29: the faults, all of them
 unfoldable pub faulty : Machine → Bool
-faulty m = tableFault (m .table) || (runFault m || some places (slotFault m))
+faulty m = tableFault (m .table) || stateFault m

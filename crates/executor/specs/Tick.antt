@@ -1,5 +1,5 @@
 -- The tick: the first refusal that applies, 29, 18, 19, 20, 21, or the effect.
-use mathlib.Core.Bool.{Bool, true, false, not, _&&_, _||_}
+use mathlib.Core.Bool.{Bool, true, false, not, _&&_}
 use Prim.Native.Nat.{ℕ, zero, suc}
 use lib.Dec.{eqb, ltb, leb}
 use Rattle.masks.specs.Mask.{has}
@@ -15,23 +15,26 @@ use Rattle.answers.specs.declared.Reply.{Reply}
 use Rattle.answers.specs.declared.Reply.the-variants.{Refused}
 use Rattle.executor.specs.declared.Ticked.{Ticked}
 use Rattle.queues.specs.Numbers
+use Rattle.queues.specs.Queues.{fullWith}
 use Rattle.answers.specs.Reply.{finishedOf}
-use Rattle.executor.specs.State.{faulty, waitingOf}
+use Rattle.executor.specs.State.{faulty}
 use Rattle.executor.specs.Effect.{effect}
 
 -- 20: "a bit set in the mask belongs to no head of the table (lowest such bit, plus 1)"
 unfoldable pub foreign : Table → ℕ → ℕ
 foreign t mask = lowest (λ i. has mask i && not (ltb i (t .count) && isHead t i)) places
 
+-- next of the callback of an index; 0 where the index is
+unfoldable pub nextAfter : Table → ℕ → ℕ
+nextAfter t x = elim x [ zero ↦ 0 | suc i ↦ nextOf t i ]
+
 -- the callback that a completion activates, an index; 0 where none is
-unfoldable pub nextActivated : Table → Reply → ℕ
-nextActivated t r = elim (finishedOf r) [ zero ↦ 0 | suc i ↦ nextOf t i ]
+abbrev pub nextActivated : Table → Reply → ℕ
+nextActivated t r = nextAfter t (finishedOf r)
 
 -- 21: "a head in the mask has 255 waiting before the tick, or a next that this tick would activate has 255 (lowest such)"
 unfoldable pub full : Machine → ℕ → Bool → ℕ → ℕ
-full m mask supplied cost =
-    let x : ℕ = nextActivated (m .table) ((effect m mask supplied cost) .reply) in
-    lowest (λ j. (has mask j || eqb x (suc j)) && leb Numbers.mostWaiting (waitingOf m j)) places
+full m mask supplied cost = fullWith (m .waiting) mask (nextActivated (m .table) ((effect m mask supplied cost) .reply))
 
 -- the first refusal that applies, in the order of the page
 unfoldable pub tickFault : Machine → ℕ → Bool → ℕ → Refusal

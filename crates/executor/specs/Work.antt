@@ -2,9 +2,8 @@
 use Prim.Native.Nat.{ℕ, suc, _+_, _-_, _≤_, _<_}
 use mathlib.Core.Path.{_≡_}
 use mathlib.Core.List.{List}
-use mathlib.Core.Bool.{Bool, true, false, _||_}
+use mathlib.Core.Bool.{Bool, true, false}
 use Rattle.masks.specs.Mask.{has}
-use Rattle.curves.specs.Every.{some}
 use Rattle.table.specs.Numbers.{places}
 use Rattle.table.specs.Values.{nextOf}
 use Rattle.answers.specs.declared.Answer.the-variants.{Idle}
@@ -12,12 +11,8 @@ use Rattle.queues.specs.declared.Choice.{Choice}
 use Rattle.executor.specs.declared.Machine.{Machine}
 use Rattle.executor.specs.declared.Ticked.{Ticked}
 use Rattle.queues.specs.Numbers.{mostTicks, mostWaiting}
-use Rattle.executor.specs.State.{waitingOf, finishedAt, slotFault, runFault}
+use Rattle.executor.specs.State.{waitingOf, finishedAt}
 use Rattle.executor.specs.Effect.{after, answered, finishes, continues, worked}
-
--- the faults of a state other than those of its table
-unfoldable pub stateFault : Machine → Bool
-stateFault m = runFault m || some places (slotFault m)
 
 -- the slot of the callback that a choice names
 abbrev pub slotOf : Choice → ℕ

@@ -8,8 +8,7 @@ use queues::numbers::PLACES;
 use table::numbers::TIMER;
 ghost use mathlib.Core.Path.{_≡_};
 ghost use mathlib.Core.Bool.{Bool};
-ghost use Rattle.executor.specs.State.{faulty};
-ghost use Rattle.executor.specs.Work.{stateFault};
+ghost use Rattle.executor.specs.State.{stateFault, faulty};
 
 impl Machine {
     // The faults of the state around its table.

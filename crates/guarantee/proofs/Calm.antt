@@ -38,9 +38,10 @@ use Rattle.busy_window.proofs.Chain.{given-no, chain-in}
 use Rattle.executor.specs.declared.Machine.{Machine}
 use Rattle.executor.specs.declared.Ticked.{Ticked}
 use Rattle.queues.specs.Numbers.{mostTicks, mostWaiting}
+use Rattle.queues.specs.Queues.{fullWith}
 use Rattle.answers.specs.Reply.{callbackOf, finishedOf}
 use Rattle.executor.specs.State.{fresh, waitingOf}
-use Rattle.executor.specs.Tick.{foreign, nextActivated, full}
+use Rattle.executor.specs.Tick.{foreign, nextAfter, nextActivated, full}
 use Rattle.sheet.specs.Sheet.{arrivalsOf, costOf, supplyOf, windowOf}
 use Rattle.sheet.proofs.TableLaws.{sound-rising}
 use Rattle.guarantee.specs.History.{Tick, Said, said, ticked, replies, tickAt, saidAt, over-window, releasedBy, activatedAt, startsAt}
@@ -271,14 +272,14 @@ module _ (tb : Table) (ground : Ground tb) (h : List Tick) (short : length h ≤
 
     -- what the tick adds to the next of its completion
     adds-next : (j : ℕ) → given (eqb (nextActivated (m .table) ((free t) .reply)) (suc j)) 1 ≡ fed (linked tb) n (hit (finishedOf ((free t) .reply))) j
-    unfolding nextActivated hit
+    unfolding nextAfter hit
     adds-next j =
         ap (λ (y : Table). given (eqb (nextActivated y ((free t) .reply)) (suc j)) 1) (valid .held)
         ∙ sym (Lists.fed-next tb n (finishedOf ((free t) .reply)) j (Ticks.did tb (ground .sound) h masked (w .offers) t l .whose))
 
     -- 21
     none-full : full m (x .mask) (x .supplied) (x .cost) ≡ 0
-    unfolding full at
+    unfolding full fullWith at
     none-full = go (lowest test places) refl
       where
         test : ℕ → Bool
