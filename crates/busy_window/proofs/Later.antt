@@ -7,7 +7,7 @@ use mathlib.Core.Logic.{_⊎_, inl, inr}
 use Prim.Native.Nat.{ℕ, zero, suc, _+_, _-_, _≤_, _<_}
 use native.Mathlib.Nat.{le-refl, zero-add}
 use native.Mathlib.Omega.{arith}
-use Rattle.curves.specs.Demand.{Rising}
+use Rattle.curves.specs.Parts.{Rising}
 use Rattle.curves.proofs.SumLaws.{le-or-lt, mono-upto}
 use Rattle.busy_window.specs.Counts.{Counts}
 use Rattle.busy_window.specs.Run.{Run}

@@ -1,6 +1,7 @@
 -- A history whose state is handed on in the lent bytes says what one whose state is handed on by value says, tick by tick, refusals and
 -- faults too; and what a tick says stands for its reply. Assumes nothing.
--- heard-said, flag-heard: the reply and the flags behind the numbers. same-said: from any state that fits its types. lent-said: from a start.
+-- heard-said, flag-heard: the reply and the flags behind the numbers. called, saidFrom: a tick and a history by value.
+-- same-said: from any state that fits its types. lent-said: from a start.
 use mathlib.Core.Path.{_≡_, refl, sym, ap, ap₂, _∙_, subst}
 use mathlib.Core.Bool.{Bool, true, false}
 use mathlib.Core.List.{List, [], _∷_}
@@ -20,11 +21,12 @@ use Rattle.answers.specs.declared.Reply.{Reply}
 use Rattle.answers.specs.declared.Reply.the-variants.{Refused, Answered}
 use Rattle.executor.specs.declared.Ticked.{Ticked}
 use Rattle.executor.specs.State.{fresh}
+use Rattle.executor.specs.Tick.{tickOf}
 use Rattle.executor.specs.Start.{startOf}
 use Rattle.cuorfelt.specs.declared.Said.{Said}
 use Rattle.layout.specs.Layout.{stateLength, packed}
 use Rattle.cuorfelt.specs.Edge.{stateStarted, flag, saidOf, saidBy, isSupplied, tickSaid, stateTicked}
-use Rattle.cuorfelt.specs.Lent.{Call, called, saidIn, saidFrom, heard}
+use Rattle.cuorfelt.specs.Lent.{Call, saidIn, heard}
 use Rattle.layout.proofs.LayoutLaws.{MachineFits, laid-packed, unpacked-packed}
 use Rattle.cuorfelt.proofs.TickLaws.{tick-table, number, refused-keeps}
 use Rattle.cuorfelt.proofs.EdgeLaws.{start-new}
@@ -46,7 +48,16 @@ flag-heard false = refl
 
 -- ---- one tick on the bytes of a state
 
-said-number : (x : Ticked) → (saidBy x) .number ≡ number x
+-- one tick by value
+abbrev pub called : Machine → Call → Ticked
+called m x = tickOf m (x .mask) (isSupplied (x .supplied)) (x .cost)
+
+-- a history, the state handed on by value
+unfoldable pub saidFrom : Machine → List Call → List Said
+saidFrom m [] = []
+saidFrom m (x ∷ h) = saidBy (called m x) ∷ saidFrom ((called m x) .machine) h
+
+pub said-number : (x : Ticked) → (saidBy x) .number ≡ number x
 unfolding number saidOf
 said-number x = refl
 

@@ -82,7 +82,7 @@ module _ (m : Machine) where
       go zero e = rw (e, served) (begun-answers ws cost (choose (m .table) (m .cache) ws))
       go (suc i) e = rw (e, served) (worked-answers ws (m .cache) i (m .units) false false 0)
 
-  effect-answers : (mask : ℕ) (supplied : Bool) (cost : ℕ) → number (effect m mask supplied cost) ≡ 0
+  pub effect-answers : (mask : ℕ) (supplied : Bool) (cost : ℕ) → number (effect m mask supplied cost) ≡ 0
   unfolding number effect
   effect-answers mask true cost = served-answers (arrived mask (m .waiting)) cost
   effect-answers mask false cost = refl

@@ -5,13 +5,10 @@ use Prim.Native.Nat.{ℕ}
 use lib.Dec.{eqb}
 use Rattle.table.specs.Values.{refuse}
 use Rattle.answers.specs.declared.Answer.the-variants.{NoSupply, Idle, Ran, Finished}
-use Rattle.executor.specs.declared.Machine.{Machine}
 use Rattle.answers.specs.declared.Reply.{Reply}
 use Rattle.answers.specs.declared.Reply.the-variants.{Refused, Answered}
-use Rattle.executor.specs.declared.Ticked.{Ticked}
-use Rattle.executor.specs.Tick.{tickOf}
 use Rattle.cuorfelt.specs.declared.Said.{Said}
-use Rattle.cuorfelt.specs.Edge.{saidBy, isSupplied, tickSaid, stateTicked}
+use Rattle.cuorfelt.specs.Edge.{tickSaid, stateTicked}
 
 -- "a list of ticks, each with its mask, supply and cost", as a host passes them
 pub record Call : Type 0 where
@@ -24,15 +21,6 @@ unfoldable pub saidIn : List ℕ → List Call → List Said
 saidIn state [] = []
 saidIn state (x ∷ h) =
     tickSaid state (x .mask) (x .supplied) (x .cost) ∷ saidIn (stateTicked state (x .mask) (x .supplied) (x .cost)) h
-
--- one tick by value
-abbrev pub called : Machine → Call → Ticked
-called m x = tickOf m (x .mask) (isSupplied (x .supplied)) (x .cost)
-
--- the same history, the state handed on "as a value"
-unfoldable pub saidFrom : Machine → List Call → List Said
-saidFrom m [] = []
-saidFrom m (x ∷ h) = saidBy (called m x) ∷ saidFrom ((called m x) .machine) h
 
 -- the reply that the numbers stand for
 unfoldable pub heard : Said → Reply

@@ -1,5 +1,5 @@
--- Laws of the arrivals a(D): none in no time, one in the first tick, at most one more a tick, so never more than D.
--- ceiling-mono, ceiling-step, ceiling-zero, ceiling-some, ceiling-le: x / y rounded up. arrivals-none, arrivals-some, arrivals-mono, arrivals-step, arrivals-first, arrivals-le.
+-- Laws of the arrivals a(D): none in no time, at most one more a tick, so never more than D.
+-- ceiling-mono, ceiling-step, ceiling-zero: x / y rounded up. arrivals-none, arrivals-some, arrivals-mono, arrivals-step, arrivals-le.
 use mathlib.Core.Path.{_≡_, refl}
 use Prim.Native.Nat.{ℕ, zero, suc, _+_, _-_, _/_, _≤_, _<_, min}
 use native.Mathlib.Nat.{le-div-iff-mul-le, div-lt-iff-lt-mul, div-mul-le-self, lt-div-mul-add, zero-add, div-eq-of-lt}
@@ -20,15 +20,6 @@ ceiling-step x y k p l = go (div-lt-iff-lt-mul p .1 (omega (arith, lt-div-mul-ad
 pub ceiling-zero : (k : ℕ) → 0 < k → ceiling 0 k ≡ 0
 unfolding ceiling
 ceiling-zero k p = rw zero-add (div-eq-of-lt (omega arith))
-
--- something, rounded up, is at least 1
-pub ceiling-some : (x k : ℕ) → 0 < k → 0 < x → 1 ≤ ceiling x k
-unfolding ceiling
-ceiling-some x k p h = le-div-iff-mul-le p .1 (omega arith)
-
-pub ceiling-le : (x k : ℕ) → 0 < k → ceiling x k ≤ x
-ceiling-le zero k p = omega (arith, ceiling-zero k p)
-ceiling-le (suc x) k p = omega (arith, ceiling-le x k p, ceiling-step x (suc x) k p (omega arith))
 
 module _ (period jitter distance : ℕ) where
   pub arrivals-none : arrivals period jitter distance 0 ≡ 0
@@ -61,11 +52,6 @@ module _ (period jitter distance : ℕ) where
       ceiling-step (suc n + jitter) (suc (suc n) + jitter) period some-period (omega arith),
       ceiling-step (suc n) (suc (suc n)) distance some-distance (omega arith),
     )
-
-    -- a(1) = 1
-    pub arrivals-first : arrivals period jitter distance 1 ≡ 1
-    unfolding arrivals
-    arrivals-first = omega (arith, ceiling-some (1 + jitter) period some-period (omega arith), ceiling-some 1 distance some-distance (omega arith), ceiling-le 1 distance some-distance)
 
     -- at most one a tick
     pub arrivals-le : (n : ℕ) → arrivals period jitter distance n ≤ n

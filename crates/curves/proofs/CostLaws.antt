@@ -10,10 +10,7 @@ use lib.ListN.{length, getD, take}
 use lib.Seq.{length-take-le, getD-take}
 use lib.Arith.{digits-div, digits-mod}
 use Rattle.curves.specs.Cost.{entry, cost}
-
--- "Entries rise strictly", the first from 0: so each is at least 1
-abbrev pub RisingEntries : List ℕ → Type 0
-RisingEntries es = (k : ℕ) → k < length es → entry es k < entry es (suc k)
+use Rattle.curves.specs.Parts.{RisingEntries}
 
 module _ (es : List ℕ) where
   pub cost-at : (q r : ℕ) → r < length es → cost es (q * length es + r) ≡ q * entry es (length es) + entry es r

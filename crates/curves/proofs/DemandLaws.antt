@@ -1,13 +1,13 @@
--- Laws of the demand: whose instances are charged (limit-own, limit-other), and more instances bring more work (demand-le, demand-lt).
+-- Laws of the demand: whose instances are charged (limit-own, limit-other), and more instances bring no less work (demand-le).
 use mathlib.Core.Path.{_≡_, refl}
 use mathlib.Core.Logic.{_≢_}
 use mathlib.Core.Bool.{Bool, true, false}
 use Prim.Native.Nat.{ℕ, suc, _≤_, _<_}
 use native.Mathlib.Nat.{le-refl, le-of-lt}
-use native.Mathlib.Omega.{arith}
 use lib.Dec.{T, eqb, eqb→eq, eqb-refl}
-use Rattle.curves.specs.Demand.{demand, limit, Rising}
-use Rattle.curves.proofs.SumLaws.{sum-le, sum-lt, mono-upto}
+use Rattle.curves.specs.Demand.{demand, limit}
+use Rattle.curves.specs.Parts.{Rising}
+use Rattle.curves.proofs.SumLaws.{sum-le, mono-upto}
 
 pub limit-own : (a : ℕ → ℕ → ℕ) (x A D : ℕ) → limit a x A D x ≡ a x (suc A)
 unfolding limit
@@ -34,12 +34,5 @@ module _ (n : ℕ) (a e : ℕ → ℕ → ℕ) (up : Rising n a e) where
   pub cost-upto : (i m m' : ℕ) → i < n → m ≤ m' → e i m ≤ e i m'
   cost-upto i m m' l h = mono-upto (e i) m' (λ t _. le-of-lt (up .e-up i t l)) m m' h (le-refl m')
 
-  -- and more of them cost more
-  pub cost-over : (i m m' : ℕ) → i < n → m < m' → e i m < e i m'
-  cost-over i m m' l h = omega (arith, up .e-up i m l, cost-upto i (suc m) m' l h)
-
   pub demand-le : (m m' : ℕ → ℕ) → ((i : ℕ) → i < n → m i ≤ m' i) → demand n e m ≤ demand n e m'
   demand-le m m' h = sum-le (λ i. e i (m i)) (λ i. e i (m' i)) n (λ i l. cost-upto i (m i) (m' i) l (h i l))
-
-  pub demand-lt : (m m' : ℕ → ℕ) (j : ℕ) → j < n → m j < m' j → ((i : ℕ) → i < n → m i ≤ m' i) → demand n e m < demand n e m'
-  demand-lt m m' j k s h = sum-lt (λ i. e i (m i)) (λ i. e i (m' i)) n j k (cost-over j (m j) (m' j) k s) (λ i l. cost-upto i (m i) (m' i) l (h i l))

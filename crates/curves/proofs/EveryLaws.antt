@@ -1,6 +1,6 @@
 -- Laws of tests, and of tests over the numbers below n.
--- holds, fails, T-holds, T-fails: a test as a type and as an equation. and-holds, or-fails: of two tests.
--- every: every-at, every-all, every-more, every-miss, every-false, every-same. some: some-at, some-hit, some-none, some-more, some-same.
+-- holds, fails, T-holds, T-fails: a test as a type and as an equation. and-holds, and-both, or-fails: of two tests.
+-- every: every-at, every-all, every-more, every-miss. some: some-hit, some-none, some-more.
 use mathlib.Core.Path.{_≡_, refl, sym, ap, ap₂, _∙_, subst}
 use mathlib.Core.Logic.{_⊎_, inl, inr}
 use mathlib.Core.Bool.{Bool, true, false, not, _&&_, _||_, or-true, true≢false}
@@ -35,6 +35,10 @@ pub and-holds : (a b : Bool) → (a && b) ≡ true → (a ≡ true) × (b ≡ tr
 and-holds true b e = (refl, e)
 and-holds false b e = absurd (never-both false e refl)
 
+pub and-both : (a b : Bool) → T (a && b) → T a × T b
+and-both true b t = (tt, t)
+and-both false b t = absurd t
+
 -- neither of two tests holds
 pub or-fails : (a b : Bool) → (a || b) ≡ false → (a ≡ false) × (b ≡ false)
 or-fails true b e = absurd (never-both true refl e)
@@ -65,16 +69,6 @@ module _ (p : ℕ → Bool) where
       go true e = absurd (never-both (p i) (every-at n e i l) f)
       go false e = refl
 
-  pub every-false : (n : ℕ) → every n p ≡ false → (i : ℕ) × (i < n) × (p i ≡ false)
-  unfolding every
-  every-false zero e = absurd (never-both true refl e)
-  every-false (suc n) e = go (p n) refl (every n p) refl (λ f. every-false n f)
-    where
-      go : (b : Bool) → p n ≡ b → (c : Bool) → every n p ≡ c → (every n p ≡ false → (i : ℕ) × (i < n) × (p i ≡ false)) → (i : ℕ) × (i < suc n) × (p i ≡ false)
-      go false f c g w = (n, omega arith, f)
-      go true f false g w = (let x = w g in (x .0, omega (arith, x .1), x .2))
-      go true f true g w = absurd (never-both (every n p && p n) (ap₂ _&&_ g f) e)
-
   -- one that passes
   pub some-hit : (n i : ℕ) → i < n → p i ≡ true → some n p ≡ true
   unfolding some
@@ -94,24 +88,3 @@ module _ (p : ℕ → Bool) where
   pub some-more : (n : ℕ) → some n p ≡ false → p n ≡ false → some (n + 1) p ≡ false
   unfolding some
   some-more n e f = ap (λ (k : ℕ). some k p) (add-one n) ∙ ap₂ _||_ e f
-
-  pub some-at : (n : ℕ) → some n p ≡ true → (i : ℕ) × (i < n) × (p i ≡ true)
-  unfolding some
-  some-at zero e = absurd (never-both false e refl)
-  some-at (suc n) e = go (p n) refl (some n p) refl (λ f. some-at n f)
-    where
-      go : (b : Bool) → p n ≡ b → (c : Bool) → some n p ≡ c → (some n p ≡ true → (i : ℕ) × (i < n) × (p i ≡ true)) → (i : ℕ) × (i < suc n) × (p i ≡ true)
-      go true f c g w = (n, omega arith, f)
-      go false f true g w = (let x = w g in (x .0, omega (arith, x .1), x .2))
-      go false f false g w = absurd (never-both (some n p || p n) e (ap₂ _||_ g f))
-
--- tests that agree below n
-pub every-same : (p q : ℕ → Bool) (n : ℕ) → ((i : ℕ) → i < n → p i ≡ q i) → every n p ≡ every n q
-unfolding every
-every-same p q zero h = refl
-every-same p q (suc n) h = ap₂ _&&_ (every-same p q n (λ i l. h i (omega arith))) (h n (omega arith))
-
-pub some-same : (p q : ℕ → Bool) (n : ℕ) → ((i : ℕ) → i < n → p i ≡ q i) → some n p ≡ some n q
-unfolding some
-some-same p q zero h = refl
-some-same p q (suc n) h = ap₂ _||_ (some-same p q n (λ i l. h i (omega arith))) (h n (omega arith))

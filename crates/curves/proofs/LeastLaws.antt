@@ -3,7 +3,7 @@
 -- rest p h d, what is left of a search of 1 to h at d: rest-start, rest-end, rest-hit, rest-miss, rest-skip.
 -- lowest: lowest-least (it is `least` over indices), lowest-hit, lowest-first, lowest-some, lowest-none, lowest-le, lowest-same.
 -- restSlots p n i, what is left of a search of the slots below n at i: slots-start, slots-end, slots-hit, slots-miss.
--- largest: largest-le, largest-upper, largest-is, largest-more.
+-- largest: largest-le, largest-upper, largest-more.
 use mathlib.Core.Path.{_≡_, refl, ap, ap₂, sym, _∙_, subst}
 use mathlib.Core.Logic.{_⊎_, inl, inr, _≢_}
 use mathlib.Core.Bool.{Bool, true, false, not}
@@ -216,18 +216,6 @@ module _ (f : ℕ → ℕ) where
   unfolding largest
   largest-upper b zero h = omega arith
   largest-upper b (suc n) h = omega (arith, largest-upper b n (λ i l. h i (omega arith)), h n (omega arith))
-
-  -- the largest is one of them
-  pub largest-is : (n : ℕ) → 0 < n → (i : ℕ) × (i < n) × (f i ≡ largest n f)
-  unfolding largest
-  largest-is zero l = absurd (omega arith)
-  largest-is (suc zero) l = (0, omega arith, omega arith)
-  largest-is (suc (suc n)) l = go (le-or-lt (largest (suc n) f) (f (suc n))) (largest-is (suc n) (omega arith))
-    where
-      go : (largest (suc n) f ≤ f (suc n)) ⊎ (f (suc n) < largest (suc n) f) → (i : ℕ) × (i < suc n) × (f i ≡ largest (suc n) f)
-          → (i : ℕ) × (i < suc (suc n)) × (f i ≡ max (largest (suc n) f) (f (suc n)))
-      go (inl k) w = (suc n, omega arith, omega arith)
-      go (inr k) w = (w .0, omega (arith, w .1), omega (arith, w .2))
 
   -- one more of them, as a loop adds it
   pub largest-more : (n : ℕ) → max (largest n f) (f n) ≡ largest (n + 1) f

@@ -1,9 +1,9 @@
 -- Laws of sums over the numbers below n, and two searches over them.
 -- le-or-lt, mono-upto, one-further: the order, functions that do not fall, what holds below n and at n. all-or-one: all stay within, or one does not.
--- sum-le, sum-lt, sum-add, sum-same: two sums compared, added, equal. sum-none, sum-under, sum-part, sum-more: a sum of nothing, of terms within b, one of its terms, one term more.
+-- sum-le, sum-lt, sum-add, sum-same: two sums compared, added, equal. sum-none, sum-part, sum-more: a sum of nothing, one of its terms, one term more.
 use mathlib.Core.Path.{_≡_, refl, subst, sym, ap}
 use mathlib.Core.Logic.{_⊎_, inl, inr}
-use Prim.Native.Nat.{ℕ, zero, suc, _+_, _*_, _≤_, _<_}
+use Prim.Native.Nat.{ℕ, zero, suc, _+_, _≤_, _<_}
 use native.Mathlib.Nat.{eq-or-lt-of-le, lt-of-not-le, le-refl}
 use native.Mathlib.Numerals.{add-one}
 use native.Mathlib.Decide.{decLe}
@@ -85,12 +85,6 @@ module _ (f : ℕ → ℕ) where
   unfolding sum
   sum-none zero h = refl
   sum-none (suc n) h = omega (arith, sum-none n (λ i l. h i (omega arith)), h n (omega arith))
-
-  -- each term within b
-  pub sum-under : (b n : ℕ) → ((i : ℕ) → i < n → f i ≤ b) → sum n f ≤ n * b
-  unfolding sum
-  sum-under b zero h = omega arith
-  sum-under b (suc n) h = omega (arith, sum-under b n (λ i l. h i (omega arith)), h n (omega arith))
 
   -- one term more, as a loop adds it
   pub sum-more : (n : ℕ) → sum n f + f n ≡ sum (n + 1) f

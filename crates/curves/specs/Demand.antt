@@ -1,6 +1,6 @@
 -- The work that a window may hold, over any arrivals a and costs e of n callbacks: demand, and whose instances are charged (limit).
 use mathlib.Core.Bool.{true, false}
-use Prim.Native.Nat.{ℕ, suc, _≤_, _<_}
+use Prim.Native.Nat.{ℕ, suc}
 use lib.Dec.{eqb}
 use Rattle.curves.specs.Sum.{sum}
 
@@ -11,8 +11,3 @@ demand n e m = sum n (λ i. e i (m i))
 -- the instances charged at offset A and length D: of x the a(A + 1) whose heads came up to A, of every other j the a(D)
 unfoldable pub limit : (ℕ → ℕ → ℕ) → ℕ → ℕ → ℕ → ℕ → ℕ
 limit a x A D j = elim (eqb j x) [ true ↦ a x (suc A) | false ↦ a j D ]
-
--- what the argument asks of the curves of n callbacks: a does not fall, and e rises strictly
-pub record Rising (n : ℕ) (a e : ℕ → ℕ → ℕ) : Type 0 where
-  pub a-up : (i d : ℕ) → i < n → a i d ≤ a i (suc d)
-  pub e-up : (i m : ℕ) → i < n → e i m < e i (suc m)

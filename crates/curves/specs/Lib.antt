@@ -1,8 +1,7 @@
 -- What the curves of document 01 are, and the searches and sums that the sheet makes over them.
--- Limits: how large numbers may be. Sum: a sum over the numbers below n. Least: the least number that passes a test; the largest of several.
+-- Sum: a sum over the numbers below n. Least: the least number that passes a test; the largest of several.
 -- Every: tests of all numbers below n. Walk: steps along the links of a table. Arrivals, Cost, Supply: document 01, 'Curves'.
--- Demand: the work that a count of instances of each callback may bring.
-pub mod Limits
+-- Demand: the work that a count of instances of each callback may bring. Parts: what inner functions ask.
 pub mod Sum
 pub mod Least
 pub mod Every
@@ -11,3 +10,4 @@ pub mod Arrivals
 pub mod Cost
 pub mod Supply
 pub mod Demand
+pub mod Parts

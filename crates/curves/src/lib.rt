@@ -3,7 +3,7 @@
 ghost use mathlib.Core.Path.{_≡_};
 ghost use Prim.Native.Nat.{ℕ, _<_, _≤_, _*_};
 ghost use lib.ListN.{take};
-ghost use Rattle.curves.specs.Limits.{maxTicks, maxLength};
+ghost use Rattle.curves.specs.Parts.{maxTicks, maxLength};
 ghost use Rattle.curves.specs.Arrivals.{arrivals as arrivalsOf};
 ghost use Rattle.curves.specs.Cost.{cost as costOf};
 ghost use Rattle.curves.specs.Supply.{supply as supplyOf};

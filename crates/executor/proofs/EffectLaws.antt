@@ -17,36 +17,36 @@ use Rattle.curves.proofs.EveryLaws.{holds}
 use Rattle.table.specs.declared.Kinds as masked
 use Rattle.table.specs.declared.Table.{Table}
 use Rattle.table.specs.Numbers.{places}
-use Rattle.table.specs.Priority.{kindsOf}
+use Rattle.table.specs.Parts.{kindsOf}
 use Rattle.answers.specs.declared.Answer.the-variants.{NoSupply}
 use Rattle.queues.specs.declared.Choice.{Choice}
 use Rattle.executor.specs.declared.Machine.{Machine}
 use Rattle.queues.specs.Numbers.{mostWaiting}
 use Rattle.executor.specs.State.{waitingOf}
-use Rattle.executor.specs.Effect
 use Rattle.queues.specs.Queues.{arrived, waits}
-use Rattle.queues.specs.Choosing.{choice, choose, chooseIn}
+use Rattle.queues.specs.Choosing.{choice, choose}
+use Rattle.queues.specs.Parts.{chooseIn}
 use Rattle.executor.specs.Effect.{finishes, continues, worked, begun, served, effect, after, answered}
-use Rattle.executor.specs.Work.{slotOf, workedBy, idled, Workable, Ready, withWaiting}
+use Rattle.executor.specs.Parts.{slotOf, workedBy, idled, Workable, Ready, withWaiting}
 use Rattle.queues.proofs.ArrivedLaws.{arrived-at}
 use Rattle.queues.proofs.ChooseLaws.{choose-law, chosen-waits}
 
 -- ---- who can work
 
 module _ (m : Machine) (ok : Ready (mostWaiting + 1) m) where
-  -- whoever is named, below sixteen and waiting
-  workable : (x : Choice) → ((i : ℕ) → x .chosen ≡ suc i → (i < places) × (0 < waitingOf m i)) → x .chosen ≢ 0 → Workable m x
+  -- whoever is named, one of the table's and waiting
+  workable : (x : Choice) → ((i : ℕ) → x .chosen ≡ suc i → (i < m .table .count) × (0 < waitingOf m i)) → x .chosen ≢ 0 → Workable m x
   workable x waiting h = record {
     named = omega arith;
-    inside = omega (arith, here .0);
+    inside = omega (arith, here .0, ok .counted);
     waits = here .1;
     room = ok .room;
-    counted = ok .done (slotOf x) (here .0);
+    counted = ok .done (slotOf x) (omega (arith, here .0, ok .counted));
     linked = ok .linked (slotOf x) (here .0);
     early = ok .early;
   }
     where
-      here : (slotOf x < places) × (0 < waitingOf m (slotOf x))
+      here : (slotOf x < m .table .count) × (0 < waitingOf m (slotOf x))
       here = waiting (slotOf x) (omega arith)
 
   pub workable-running : m .running ≢ 0 → Workable m (choice (m .running) (m .cache) false 0)
@@ -57,8 +57,7 @@ module _ (m : Machine) (ok : Ready (mostWaiting + 1) m) where
 
   pub workable-begun : (x : Choice) → x ≡ choose (m .table) (m .cache) (m .waiting) → x .chosen ≢ 0 → Workable m x
   workable-begun x e =
-      workable x
-      (λ i q. (let h = chosen-waits (m .table) (m .cache) (m .waiting) kept i (ap (λ (y : Choice). y .chosen) (sym e) ∙ q) in (omega (arith, h .0, ok .counted), h .1)))
+      workable x (λ i q. chosen-waits (m .table) (m .cache) (m .waiting) kept i (ap (λ (y : Choice). y .chosen) (sym e) ∙ q))
     where
       kept : (i : ℕ) → i < m .table .count → T (has (m .cache) i) → 0 < waitingOf m i
       kept i l h = ok .cached i l (holds (has (m .cache) i) h)
@@ -128,7 +127,7 @@ ready-arrived m mask ws n e ok = record {
   room = λ i l. omega (arith, at i l, ok .room i l, given-le (has mask i));
   early = ok .early;
   done = ok .done;
-  runner = λ i q. (ok .runner i q .0, omega (arith, at i (ok .runner i q .0), ok .runner i q .1));
+  runner = λ i q. (ok .runner i q .0, omega (arith, at i (omega (arith, ok .runner i q .0, ok .counted)), ok .runner i q .1));
   measured = ok .measured;
   cached = λ i l h. omega (arith, at i (omega (arith, ok .counted)), ok .cached i l h);
 }

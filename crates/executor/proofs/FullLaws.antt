@@ -1,8 +1,8 @@
 -- Refusals 20 and 21: the slots of the mask, and the callback that is activated. Assumes nothing.
---   next-none, next-some, next-le                    who is activated
---   foreign-law                                      a bit that belongs to no head
---   chosen-below, finished-le, activated-le          whoever finishes, or is activated, is one of the table's
---   full-law, finished-few, activated-few, full-is    refusal 21 of a tick
+--   next-none, next-some              who is activated
+--   foreign-law                       a bit that belongs to no head
+--   chosen-below, finished-le         whoever finishes is one of the table's
+--   full-law, finished-few, full-is   refusal 21 of a tick
 use mathlib.Core.Path.{_≡_, refl, sym, subst, ap, _∙_}
 use mathlib.Core.Logic.{_≢_}
 use mathlib.Core.Bool.{Bool, true, false, not, _&&_}
@@ -11,15 +11,17 @@ use Prim.Native.Nat.{ℕ, zero, suc, _-_, _≤_, _<_}
 use native.Mathlib.Omega.{arith}
 use lib.Dec.{eqb, ltb}
 use borrow.Author.Tests.{ltb-false}
-use Rattle.masks.specs.Mask.{has, except, gather}
+use Rattle.masks.specs.Mask.{has, gather}
+use Rattle.masks.specs.Parts.{except}
 use Rattle.masks.proofs.Slots.{has-except, except-lt, has-above}
 use Rattle.masks.proofs.Gather.{gather-has}
 use Rattle.table.specs.declared.Table.{Table}
 use Rattle.table.specs.Numbers.{places}
 use Rattle.table.specs.Values.{nextOf}
 use Rattle.table.specs.Links.{isHead}
-use Rattle.table.specs.Priority.{foremost, firstIndex}
-use Rattle.table.proofs.PriorityLaws.{first-lowest}
+use Rattle.table.specs.Priority.{foremost}
+use Rattle.table.specs.Parts.{firstIndex}
+use Rattle.table.proofs.PriorityLaws.{first-lowest, foremost-hit}
 use Rattle.answers.specs.declared.Answer.the-variants.{Idle}
 use Rattle.queues.specs.declared.Choice.{Choice}
 use Rattle.executor.specs.declared.Machine.{Machine}
@@ -30,8 +32,8 @@ use Rattle.queues.specs.Choosing.{isPolled, choose, gatheredOf, pollingPoint}
 use Rattle.queues.specs.Queues.{waits, arrived, fullWith}
 use Rattle.executor.specs.Effect.{finishes, continues, worked, begun, served, effect, after, answered}
 use Rattle.executor.specs.Tick.{foreign, nextAfter, full}
-use Rattle.executor.specs.Work.{Ready}
-use Rattle.queues.proofs.ChooseLaws.{foremost-hit, chosenOf}
+use Rattle.executor.specs.Parts.{Ready}
+use Rattle.queues.proofs.ChooseLaws.{chosenOf}
 
 -- ---- who is activated
 
@@ -47,14 +49,6 @@ module _ (t : Table) (x : ℕ) where
       go : (y : ℕ) → y ≢ 0 → nextOf t (y - 1) ≡ elim y [ zero ↦ 0 | suc i ↦ nextOf t i ]
       go zero n = absurd (n refl)
       go (suc i) n = ap (nextOf t) (omega arith)
-
-  pub next-le : ((i : ℕ) → i < places → nextOf t i ≤ places) → x ≤ places → nextAfter t x ≤ places
-  unfolding nextAfter
-  next-le linked l = go x l
-    where
-      go : (y : ℕ) → y ≤ places → elim y as (λ _. ℕ) [ zero ↦ 0 | suc i ↦ nextOf t i ] ≤ places
-      go zero k = omega arith
-      go (suc i) k = linked i k
 
 -- ---- a bit that belongs to no head
 
@@ -125,16 +119,12 @@ module _ (m : Machine) (ok : Ready mostWaiting m) where
       go : (r : ℕ) → m .running ≡ r
           → finishedOf ((elim r as (λ _. Ticked) [ zero ↦ begun m ws cost x | suc i ↦ worked m ws (m .cache) i (m .units) false false 0 ]) .reply) ≤ places
       go zero e = start (x .chosen) (omega (arith, chosen-below (m .table) (m .cache) ws, ok .counted))
-      go (suc i) e = worked-le ws (m .cache) i (m .units) false false 0 (ok .runner i e .0)
+      go (suc i) e = worked-le ws (m .cache) i (m .units) false false 0 (omega (arith, ok .runner i e .0, ok .counted))
 
   pub finished-le : (mask : ℕ) (supplied : Bool) (cost : ℕ) → finishedOf ((effect m mask supplied cost) .reply) ≤ places
   unfolding effect
   finished-le mask true cost = served-le (arrived mask (m .waiting)) cost
   finished-le mask false cost = omega arith
-
-  -- the callback that the effect activates
-  pub activated-le : (mask : ℕ) (supplied : Bool) (cost : ℕ) → nextAfter (m .table) (finishedOf ((effect m mask supplied cost) .reply)) ≤ places
-  activated-le mask supplied cost = next-le (m .table) _ (ok .linked) (finished-le mask supplied cost)
 
 -- refusal 21 of a tick
 pub full-law : (m : Machine) (mask : ℕ) (supplied : Bool) (cost : ℕ)
@@ -153,9 +143,6 @@ module _ (m : Machine) (mask : ℕ) (supplied : Bool) (cost : ℕ) (r : Ticked) 
   module _ (n : ℕ) (g : n ≡ nextAfter (m .table) x) where
     next-is : n ≡ nextAfter (m .table) (finishedOf ((effect m mask supplied cost) .reply))
     next-is = g ∙ ap (nextAfter (m .table)) finished-is
-
-    pub activated-few : Ready mostWaiting m → n ≤ places
-    activated-few ok = subst (λ (y : ℕ). y ≤ places) (sym next-is) (activated-le m ok mask supplied cost)
 
     pub full-is : (y : ℕ) → y ≡ fullWith (m .waiting) mask n → y ≡ full m mask supplied cost
     full-is y h = h ∙ ap (fullWith (m .waiting) mask) next-is ∙ full-law m mask supplied cost

@@ -1,57 +1,32 @@
 -- A state without faults is ready for steps 1 to 4. Assumes nothing.
---   table-sound, next-few   its table is sound, and each place names one of sixteen callbacks or none
---   ready                   what a state without faults gives
+--   table-sound   its table is sound
+--   ready         what a state without faults gives
 use mathlib.Core.Path.{_≡_, refl, sym, ap, _∙_}
-use mathlib.Core.Logic.{_⊎_, inl, inr}
 use mathlib.Core.Bool.{Bool, true, false, cond, not, _&&_, _||_, or-true}
 use Prim.Native.Nat.{ℕ, zero, suc, _≤_, _<_}
 use native.Mathlib.Omega.{arith}
 use lib.Dec.{eqb, ltb, leb}
-use borrow.Author.Tests.{eq-eqb, ne-eqb, eqb-true, eqb-false, ltb-false, leb-true, le-leb, not-false}
+use borrow.Author.Tests.{eq-eqb, ne-eqb, eqb-true, eqb-false, ltb-false, leb-true, not-false}
 use Rattle.masks.specs.Mask.{has}
 use Rattle.curves.specs.Every.{some}
-use Rattle.curves.proofs.SumLaws.{le-or-lt}
 use Rattle.curves.proofs.EveryLaws.{and-holds, or-fails}
-use Rattle.table.specs.declared.Callback.{Callback}
 use Rattle.table.specs.declared.Table.{Table}
 use Rattle.table.specs.Numbers.{places}
-use Rattle.table.specs.Values.{callbackAt, nextOf}
 use Rattle.reader.specs.Rules.{within, faultOf}
-use Rattle.reader.proofs.Sound.{Sound, sound}
+use Rattle.reader.proofs.Sound.{sound}
+use Rattle.reader.specs.Parts.{Sound}
 use Rattle.executor.specs.declared.Machine.{Machine}
 use Rattle.queues.specs.Numbers.{mostTicks, mostWaiting, largestCost}
 use Rattle.executor.specs.State.{waitingOf, finishedAt, runs, beyondFault, countFault, cacheFault, slotFault, runFault, stateFault}
-use Rattle.faults.specs.Faults.{isBlank, tableFault, cacheWrong, countWrong, runWrong, slotWrong, isSpare}
-use Rattle.executor.specs.Work.{Ready}
+use Rattle.faults.specs.Faults.{tableFault, cacheWrong, countWrong, runWrong, slotWrong}
+use Rattle.executor.specs.Parts.{Ready}
 use Rattle.faults.proofs.ValueLaws.{some-miss}
 
 -- ---- the table
 
--- a blank place names nobody
-blank-next : (c : Callback) → isBlank c ≡ true → c .next ≡ 0
-unfolding isBlank
-blank-next c e =
-    let names : (eqb (c .kind) 0 && (eqb (c .next) 0 && eqb (c .entries) 0)) ≡ true = and-holds (eqb (c .kind) 0 && (eqb (c .next) 0 && eqb (c .entries) 0)) _ e .0 in
-    let rest : (eqb (c .next) 0 && eqb (c .entries) 0) ≡ true = and-holds (eqb (c .kind) 0) (eqb (c .next) 0 && eqb (c .entries) 0) names .1 in
-    eqb-true (c .next) 0 (and-holds (eqb (c .next) 0) (eqb (c .entries) 0) rest .0)
-
-module _ (t : Table) (ok : tableFault t ≡ false) where
-  parts : (not (eqb ((faultOf t) .number) 0) ≡ false) × (some places (isSpare t) ≡ false)
-  unfolding tableFault
-  parts = or-fails (not (eqb ((faultOf t) .number) 0)) (some places (isSpare t)) ok
-
-  pub table-sound : Sound t
-  table-sound = sound t (eqb-true ((faultOf t) .number) 0 (not-false _ (parts .0)))
-
-  pub next-few : (i : ℕ) → i < places → nextOf t i ≤ places
-  next-few i l = go (le-or-lt (t .count) i)
-    where
-      blank : t .count ≤ i → isBlank (callbackAt t i) ≡ true
-      blank h = not-false _ (sym (ap (λ (b : Bool). b && not (isBlank (callbackAt t i))) (le-leb (t .count) i h)) ∙ some-miss (isSpare t) places i (parts .1) l)
-
-      go : (t .count ≤ i) ⊎ (i < t .count) → nextOf t i ≤ places
-      go (inl h) = omega (arith, blank-next (callbackAt t i) (blank h))
-      go (inr h) = omega (arith, table-sound .names i h, table-sound .few)
+pub table-sound : (t : Table) → tableFault t ≡ false → Sound t
+unfolding tableFault
+table-sound t ok = sound t (eqb-true ((faultOf t) .number) 0 (not-false _ ok))
 
 -- ---- the state
 
@@ -112,18 +87,18 @@ module _ (m : Machine) (right : stateFault m ≡ false) where
 
   pub ready : tableFault (m .table) ≡ false → m .clock < mostTicks → Ready mostWaiting m
   ready ok early = record {
-    counted = few;
-    linked = next-few (m .table) ok;
+    counted = table .few;
+    linked = λ i l. omega (arith, table .names i l, table .few);
     room = few-wait;
     early = early;
     done = λ i l. omega (arith, few-finished i l);
     runner = λ i e. (
-      omega (arith, inside i e, few),
-      waits i (omega (arith, inside i e, few)) (ap (λ (b : Bool). has (m .cache) i || b) (eq-eqb (m .running) (suc i) e) ∙ or-true (has (m .cache) i)),
+      inside i e,
+      waits i (omega (arith, inside i e, table .few)) (ap (λ (b : Bool). has (m .cache) i || b) (eq-eqb (m .running) (suc i) e) ∙ or-true (has (m .cache) i)),
     );
     measured = units;
-    cached = λ i l h. waits i (omega (arith, few)) (ap (λ (b : Bool). b || runs m i) h);
+    cached = λ i l h. waits i (omega (arith, table .few)) (ap (λ (b : Bool). b || runs m i) h);
   }
     where
-      few : m .table .count ≤ places
-      few = table-sound (m .table) ok .few
+      table : Sound (m .table)
+      table = table-sound (m .table) ok

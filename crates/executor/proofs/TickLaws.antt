@@ -18,7 +18,7 @@ use Rattle.queues.specs.Numbers
 use Rattle.executor.specs.State.{faulty}
 use Rattle.executor.specs.Effect.{effect}
 use Rattle.executor.specs.Tick.{foreign, full, tickFault, refused, tickOf}
-use Rattle.executor.specs.Admitted.{admitted}
+use Rattle.executor.specs.Parts.{admitted}
 
 module _ (m : Machine) (mask : ℕ) (supplied : Bool) (cost : ℕ) where
   -- ---- refusal 21, or the effect

@@ -19,7 +19,7 @@ use Rattle.queues.specs.declared.Choice.{Choice}
 use Rattle.executor.specs.declared.Machine.{Machine}
 use Rattle.executor.specs.State.{waitingOf}
 use Rattle.executor.specs.Effect.{finishes, continues, worked}
-use Rattle.executor.specs.Work.{slotOf, Workable}
+use Rattle.executor.specs.Parts.{slotOf, Workable}
 
 pub index-slot : (x : ℕ) → 0 < x → suc (x - 1) ≡ x
 index-slot x h = omega arith

@@ -12,7 +12,7 @@ ghost use mathlib.Core.Path.{_≡_};
 ghost use Prim.Native.Nat.{ℕ, _+_, _<_};
 ghost use Rattle.queues.specs.Numbers.{mostTicks, mostWaiting};
 ghost use Rattle.executor.specs.Effect.{served, effect};
-ghost use Rattle.executor.specs.Work.{Ready, idled};
+ghost use Rattle.executor.specs.Parts.{Ready, idled};
 
 impl Machine {
     // Nobody is chosen: the tick is idle.

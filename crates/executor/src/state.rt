@@ -1,14 +1,13 @@
-// What number 29 refuses: a table that the reader refuses, and the faults of the state around it.
+// What number 29 refuses of a state, its table apart.
 
 use super::Machine;
 use faults::run_fault;
 use faults::slot_fault;
-use faults::table_fault;
 use queues::numbers::PLACES;
 use table::numbers::TIMER;
 ghost use mathlib.Core.Path.{_≡_};
 ghost use mathlib.Core.Bool.{Bool};
-ghost use Rattle.executor.specs.State.{stateFault, faulty};
+ghost use Rattle.executor.specs.State.{stateFault};
 
 impl Machine {
     // The faults of the state around its table.
@@ -40,15 +39,5 @@ impl Machine {
             i += 1;
         }
         false
-    }
-    // Whether the state has any of the faults of number 29.
-    pub fn faulty(self) -> bool
-        ensures { λ r. ⌜ r ≡ faulty self ⌝ }
-    {
-        let t = self.table;
-        if table_fault(t) {
-            return true;
-        }
-        self.state_fault()
     }
 }

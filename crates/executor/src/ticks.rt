@@ -23,8 +23,7 @@ ghost use Rattle.table.specs.Values.{refuse};
 ghost use Rattle.queues.specs.Numbers.{mostWaiting};
 ghost use Rattle.faults.specs.Faults.{tableFault};
 ghost use Rattle.executor.specs.Tick.{foreign, nextAfter, refused, tickOf};
-ghost use Rattle.executor.specs.Work.{Ready};
-ghost use Rattle.executor.specs.Admitted.{admitted};
+ghost use Rattle.executor.specs.Parts.{Ready, admitted};
 
 // The callback that the completion of an index activates; 0 where the index is, and where its chain ends.
 fn next_after(t: Table, index: u8) -> u8

@@ -8,7 +8,7 @@ use queues::Choice;
 use queues::arrivals::activate;
 ghost use mathlib.Core.Path.{_≡_};
 ghost use Prim.Native.Nat.{ℕ, _<_};
-ghost use Rattle.executor.specs.Work.{Workable, finishedBy, continuedBy, workedBy};
+ghost use Rattle.executor.specs.Parts.{Workable, finishedBy, continuedBy, workedBy};
 
 impl Machine {
     // The last unit of the instance chosen: it finishes, and activates next.

@@ -1,36 +1,14 @@
 -- The faults of number 29 over values, and those of a table.
 use mathlib.Core.Bool.{Bool, cond, not, _&&_, _||_}
 use Prim.Native.Nat.{ℕ}
-use lib.Dec.{eqb, ltb, leb}
-use lib.ListN.{getD}
-use Rattle.curves.specs.Every.{every, some}
-use Rattle.table.specs.declared.Callback.{Callback}
+use lib.Dec.{eqb, ltb}
 use Rattle.table.specs.declared.Table.{Table}
-use Rattle.table.specs.Numbers.{places, entryPlaces}
-use Rattle.table.specs.Values.{callbackAt}
 use Rattle.reader.specs.Rules.{faultOf, within}
 use Rattle.queues.specs.Numbers.{mostWaiting, largestCost}
 
--- every cost entry of a place is zero
-abbrev pub noEntries : Callback → Bool
-noEntries c = every entryPlaces (λ k. eqb (getD (c .cost) k 0) 0)
-
--- whether a place holds no callback
-unfoldable pub isBlank : Callback → Bool
-isBlank c =
-    (eqb (c .kind) 0 && (eqb (c .next) 0 && eqb (c .entries) 0))
-    && ((eqb (c .period) 0 && (eqb (c .jitter) 0 && eqb (c .distance) 0)) && noEntries c)
-
--- a place beyond n that is not blank; one of them
-abbrev pub isSpare : Table → ℕ → Bool
-isSpare t i = leb (t .count) i && not (isBlank (callbackAt t i))
-
-abbrev pub spareFault : Table → Bool
-spareFault t = some places (isSpare t)
-
--- "its table is one the reader refuses", or none that a reader gives: a place beyond n is not blank
+-- "its table is one the reader refuses"
 unfoldable pub tableFault : Table → Bool
-tableFault t = not (eqb ((faultOf t) .number) 0) || spareFault t
+tableFault t = not (eqb ((faultOf t) .number) 0)
 
 -- a slot, from whether it lies beyond n, is cached, runs and is polled, its waiting and finished counts, and the ticks taken:
 -- "a callback beyond n .. is cached or has a waiting or finished count not 0"

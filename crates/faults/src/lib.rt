@@ -2,14 +2,11 @@
 
 use queues::numbers::LARGEST_COST;
 use queues::numbers::MOST_WAITING;
-use queues::numbers::PLACES;
-use table::Callback;
 use table::Table;
-use table::numbers::ENTRY_PLACES;
 ghost use mathlib.Core.Path.{_≡_};
 ghost use mathlib.Core.Bool.{Bool};
 ghost use Prim.Native.Nat.{ℕ};
-ghost use Rattle.faults.specs.Faults.{isBlank, tableFault, beyondWrong, countWrong, cacheWrong, slotWrong, runWrong, noEntries, spareFault};
+ghost use Rattle.faults.specs.Faults.{tableFault, beyondWrong, countWrong, cacheWrong, slotWrong, runWrong};
 
 // Whether a callback beyond n is cached, waits or has finished.
 fn beyond_fault(beyond: bool, cached: bool, waiting: u16, finished: u32) -> bool
@@ -78,67 +75,10 @@ pub fn run_fault(n: u8, running: u8, units: u16) -> bool
     units == 0 || units > LARGEST_COST
 }
 
-// Whether every cost entry of a place is zero.
-fn no_entries(c: Callback) -> bool
-    ensures { λ r. ⌜ r ≡ noEntries c ⌝ }
-{
-    let mut k: u8 = 0;
-    while k < ENTRY_PLACES {
-        if c.cost[k as usize] != 0 {
-            return false;
-        }
-        k += 1;
-    }
-    true
-}
-
-// Whether every value of a place is zero.
-fn is_blank(c: Callback) -> bool
-    ensures { λ r. ⌜ r ≡ isBlank c ⌝ }
-{
-    if c.kind != 0 {
-        return false;
-    }
-    if c.next != 0 {
-        return false;
-    }
-    if c.entries != 0 {
-        return false;
-    }
-    if c.period != 0 {
-        return false;
-    }
-    if c.jitter != 0 {
-        return false;
-    }
-    if c.distance != 0 {
-        return false;
-    }
-    no_entries(c)
-}
-
-// Whether a place beyond n is not blank.
-fn spare_fault(t: Table) -> bool
-    ensures { λ r. ⌜ r ≡ spareFault t ⌝ }
-{
-    let mut i = t.count;
-    while i < PLACES {
-        let c = t.callbacks[i as usize];
-        if !is_blank(c) {
-            return true;
-        }
-        i += 1;
-    }
-    false
-}
-
-// Whether the reader refuses such a table, or gives none such.
+// Whether the reader refuses such a table.
 pub fn table_fault(t: Table) -> bool
     ensures { λ r. ⌜ r ≡ tableFault t ⌝ }
 {
     let r = reader::rules::fault(t);
-    if r.number != 0 {
-        return true;
-    }
-    spare_fault(t)
+    r.number != 0
 }

@@ -20,13 +20,13 @@ use Rattle.curves.specs.Sum.{sum, given}
 use Rattle.curves.specs.Least.{lowest}
 use Rattle.curves.proofs.SumLaws.{sum-same, sum-none, le-or-lt}
 use Rattle.curves.proofs.LeastLaws.{lowest-hit}
-use Rattle.curves.proofs.EveryLaws.{holds}
+use Rattle.curves.proofs.EveryLaws.{holds, and-both}
 use Rattle.curves.proofs.WalkLaws.{rank}
 use Rattle.table.specs.declared.Table.{Table}
 use Rattle.table.specs.Numbers.{places}
 use Rattle.table.specs.Values.{nextOf}
 use Rattle.table.specs.Links.{linked, isHead, headOf}
-use Rattle.reader.proofs.Sound.{Sound}
+use Rattle.reader.specs.Parts.{Sound}
 use Rattle.reader.proofs.Heads.{head-unfed, head-lt, head-self, head-is-head, rank-up}
 use Rattle.busy_window.specs.Counts.{Counts, Quiet, Busy}
 use Rattle.busy_window.specs.Run.{Run}
@@ -48,7 +48,6 @@ use Rattle.guarantee.specs.History.{Tick, Said, said, ticked, replies, t
 use Rattle.guarantee.specs.Within.{WithinCurves}
 use Rattle.guarantee.proofs.Lists
 use Rattle.guarantee.proofs.Lists.{hit}
-use Rattle.queues.proofs.ChooseLaws.{and-both}
 use Rattle.executor.proofs.TickLaws.{passes}
 use Rattle.guarantee.proofs.Choose.{both-and}
 use Rattle.guarantee.proofs.Step.{Valid}

@@ -20,11 +20,12 @@ use Rattle.table.specs.declared.Table.{Table}
 use Rattle.table.specs.Numbers.{timer, client}
 use Rattle.table.specs.Values.{kindOf}
 use Rattle.table.specs.Priority.{foremostFrom, foremost}
-use Rattle.reader.proofs.Sound.{Sound}
+use Rattle.reader.specs.Parts.{Sound}
 use Rattle.queues.specs.declared.Choice.{Choice}
 use Rattle.queues.specs.Choosing.{isPolled, choice, gatheredOf, pollingPoint, choose}
 use Rattle.queues.specs.Queues.{waits}
-use Rattle.queues.proofs.ChooseLaws.{and-both, foremost-hit}
+use Rattle.curves.proofs.EveryLaws.{and-both}
+use Rattle.table.proofs.PriorityLaws.{foremost-hit}
 
 pub both-and : (a b : Bool) → T a → T b → T (a && b)
 both-and true b t r = r

@@ -26,7 +26,7 @@ use Rattle.reader.specs.Format.{recordAt, spareAt, recordsTo, tableAt, sparesAt
 use Rattle.table.specs.Values.{horizonOf}
 use Rattle.executor.specs.State.{fresh, faulty}
 use Rattle.queues.specs.Choosing.{isPolled, gatheredOf, choose}
-use Rattle.faults.specs.Faults.{isBlank, tableFault, beyondWrong, cacheWrong, countWrong, runWrong, slotWrong}
+use Rattle.faults.specs.Faults.{tableFault, beyondWrong, cacheWrong, countWrong, runWrong, slotWrong}
 use Rattle.queues.specs.Queues.{arrivedTo, arrived, activated, fullWith}
 use Rattle.executor.specs.Effect.{finishes, continues, worked, begun, served, effect}
 use Rattle.executor.specs.Tick.{foreign, nextAfter, full, tickFault, refused, tickOf}
@@ -59,7 +59,7 @@ record Computed : Type 0 where
   activated-at-2 : activation (tableAt bytes) ticks says (headOf (tableAt bytes) 2) 1 2
 
 computed : Computed
-unfolding bytes ticks says row zeros over has withBit withoutBit gather countOf sum least lowestFrom largest every some walk ceiling arrivals cost supply limit horizonOf linked named isHead feeder headFrom headOf onLoop foremostFrom supplyFault costFault unusedFault recordFault recordsFrom arrivalsFault linksFault faultWith recordAt spareAt recordsTo tableAt sparesAt readFault readOf fresh isPolled isBlank tableFault beyondWrong countWrong cacheWrong slotWrong runWrong faulty arrivedTo arrived activated gatheredOf choose finishes continues worked begun served effect foreign nextAfter fullWith full tickFault refused tickOf startOf covered coveredFor window finish bound arrivalsOf costOf supplyOf windowOf boundOf tooManyAt sheetFault analysisFault boundsTo rowOf replies tickAt saidAt releasesAt releasedBy activatedAt activations activation startsAt everyWindow arrivalsHold supplyHolds costsHold headsHold offerHolds withinTest
+unfolding bytes ticks says row zeros over has withBit withoutBit gather countOf sum least lowestFrom largest every some walk ceiling arrivals cost supply limit horizonOf linked named isHead feeder headFrom headOf onLoop foremostFrom supplyFault costFault unusedFault recordFault recordsFrom arrivalsFault linksFault faultWith recordAt spareAt recordsTo tableAt sparesAt readFault readOf fresh isPolled tableFault beyondWrong countWrong cacheWrong slotWrong runWrong faulty arrivedTo arrived activated gatheredOf choose finishes continues worked begun served effect foreign nextAfter fullWith full tickFault refused tickOf startOf covered coveredFor window finish bound arrivalsOf costOf supplyOf windowOf boundOf tooManyAt sheetFault analysisFault boundsTo rowOf replies tickAt saidAt releasesAt releasedBy activatedAt activations activation startsAt everyWindow arrivalsHold supplyHolds costsHold headsHold offerHolds withinTest
 computed = record { replied = refl; accepted = refl; written = refl; within = refl; thirty = refl; three = refl; activated-at-2 = (tt, refl) }
 
 -- the guarantee, of this history

@@ -14,7 +14,7 @@ use Rattle.table.specs.declared.Table.{Table}
 use Rattle.table.specs.Values.{horizonOf}
 use Rattle.table.specs.Links.{linked, isHead, headOf}
 use Rattle.reader.specs.Format.{tableAt}
-use Rattle.reader.proofs.Sound.{Sound}
+use Rattle.reader.specs.Parts.{Sound}
 use Rattle.reader.proofs.Heads.{fed-once, top, down, head-is-head}
 use Rattle.reader.proofs.Accepted.{read-sound}
 use Rattle.busy_window.specs.Bound.{Covers}

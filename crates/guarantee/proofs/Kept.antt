@@ -17,7 +17,7 @@ use Rattle.masks.specs.Mask.{has}
 use Rattle.curves.specs.Sum.{sum, given}
 use Rattle.curves.specs.Demand.{limit}
 use Rattle.curves.proofs.SumLaws.{sum-same, sum-none, le-or-lt}
-use Rattle.curves.proofs.EveryLaws.{holds, never-both}
+use Rattle.curves.proofs.EveryLaws.{holds, never-both, and-both}
 use Rattle.table.specs.declared.Table.{Table}
 use Rattle.table.specs.Values.{nextOf}
 use Rattle.table.specs.Links.{linked, isHead, headOf}
@@ -38,7 +38,6 @@ use Rattle.guarantee.specs.History.{Tick, Said, said, replies, tickAt, s
 use Rattle.guarantee.specs.Within.{WithinCurves}
 use Rattle.guarantee.proofs.Lists
 use Rattle.guarantee.proofs.Lists.{hit}
-use Rattle.queues.proofs.ChooseLaws.{and-both}
 use Rattle.guarantee.proofs.Ticks
 use Rattle.guarantee.proofs.Ticks.{before, at, effected, events, states}
 use Rattle.guarantee.proofs.Ground.{Ground, leads}

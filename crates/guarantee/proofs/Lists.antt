@@ -1,5 +1,5 @@
 -- What single ticks do to lists of counts, and the numbers 0 or 1 that the busy-window argument counts.
---   hit                               1 where an index is that of a slot: hit-self, hit-other, hit-none, hit-le, hit-some
+--   hit                               1 where an index is that of a slot: hit-self, hit-other, hit-none, hit-le
 --   sum-hit, fed-hit, fed-none, fed-next   a hit summed over the slots, and over the slots that feed one
 --   raised-at, lessened-at            one more, or one fewer, in a slot
 --   activated-length, activated-at    the next of a completion gains 1
@@ -14,7 +14,7 @@ use native.Mathlib.Omega.{arith}
 use lib.Dec.{eqb}
 use lib.ListN.{length, getD, set, length-set}
 use lib.Seq.{getD-set-same, getD-set-other}
-use borrow.Author.Tests.{eq-eqb, ne-eqb, eqb-true}
+use borrow.Author.Tests.{eq-eqb, ne-eqb}
 use Rattle.curves.specs.Sum.{sum, given}
 use Rattle.curves.proofs.SumLaws.{sum-none}
 use Rattle.table.specs.declared.Table.{Table}
@@ -47,15 +47,6 @@ hit-le x i = go (eqb x (suc i))
     go : (b : Bool) → given b 1 ≤ 1
     go true = le-refl 1
     go false = omega arith
-
--- a hit is one of the slot that the index names
-pub hit-some : (x i : ℕ) → 0 < hit x i → x ≡ suc i
-unfolding hit
-hit-some x i l = go (eqb x (suc i)) refl l
-  where
-    go : (b : Bool) → eqb x (suc i) ≡ b → 0 < given b 1 → x ≡ suc i
-    go true e l = eqb-true x (suc i) e
-    go false e l = absurd (omega arith)
 
 pub sum-hit : (n i : ℕ) → i < n → sum n (hit (suc i)) ≡ 1
 unfolding sum

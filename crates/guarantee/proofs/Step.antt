@@ -22,7 +22,7 @@ use Rattle.table.specs.declared.Table.{Table}
 use Rattle.table.specs.Numbers.{places}
 use Rattle.table.specs.Values.{nextOf}
 use Rattle.table.specs.Links.{linked}
-use Rattle.reader.proofs.Sound.{Sound}
+use Rattle.reader.specs.Parts.{Sound}
 use Rattle.busy_window.specs.Flow.{fed}
 use Rattle.busy_window.proofs.Chain.{given-no}
 use Rattle.answers.specs.declared.Answer.{Answer}

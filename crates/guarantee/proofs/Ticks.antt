@@ -19,7 +19,7 @@ use Rattle.curves.specs.Sum.{sum, given}
 use Rattle.table.specs.declared.Table.{Table}
 use Rattle.table.specs.Numbers.{places}
 use Rattle.table.specs.Links.{linked}
-use Rattle.reader.proofs.Sound.{Sound}
+use Rattle.reader.specs.Parts.{Sound}
 use Rattle.busy_window.specs.Flow.{Events, States, Local}
 use Rattle.executor.specs.declared.Machine.{Machine}
 use Rattle.executor.specs.declared.Ticked.{Ticked}

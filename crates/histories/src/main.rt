@@ -3,6 +3,8 @@
 // supplied in one, cost in four, little-endian. A refused start prints `refused`, number, index. A tick prints its place from 0, the
 // answer's number, callback, instance, whether one started, whether it polled and how many it took; or its place, `refused`, number, index.
 
+use answers::Answer;
+use answers::Reply;
 use executor::Machine;
 use executor::Ticked;
 use libc::STDIN_FILENO;
@@ -33,22 +35,38 @@ fn print_refusal(r: Refusal) {
     io::write_all(STDOUT_FILENO, b"\n");
 }
 
+// The answer's number, its callback and its instance.
+fn print_named(number: u64, callback: u8, instance: u32) {
+    print_field(number);
+    print_field(callback as u64);
+    print_field(instance as u64);
+}
+
+fn print_answer(answer: Answer) {
+    match answer {
+        Answer::NoSupply => print_named(1, 0, 0),
+        Answer::Idle => print_named(2, 0, 0),
+        Answer::Ran(i, k) => print_named(3, i, k),
+        Answer::Finished(i, k) => print_named(4, i, k),
+    }
+}
+
 fn print_tick(place: u64, ticked: Ticked) {
     io::print_decimal(STDOUT_FILENO, place);
     let reply = ticked.reply;
-    let number = reply.number();
-    if number == 0 {
-        io::write_all(STDOUT_FILENO, b" ");
-        print_refusal(reply.refusal());
-        return;
+    match reply {
+        Reply::Refused(r) => {
+            io::write_all(STDOUT_FILENO, b" ");
+            print_refusal(r);
+        }
+        Reply::Answered(a) => {
+            print_answer(a);
+            print_flag(ticked.started);
+            print_flag(ticked.polled);
+            print_field(ticked.gathered as u64);
+            io::write_all(STDOUT_FILENO, b"\n");
+        }
     }
-    print_field(number as u64);
-    print_field(reply.callback() as u64);
-    print_field(reply.instance() as u64);
-    print_flag(ticked.started);
-    print_flag(ticked.polled);
-    print_field(ticked.gathered as u64);
-    io::write_all(STDOUT_FILENO, b"\n");
 }
 
 // The machine of the table on standard input; prints the refusal where there is one.

@@ -1,31 +1,29 @@
 -- Packing and unpacking a state are inverse to each other. Assumes nothing.
 -- Laid, laid, laid-out: the parts of laidOut. table-faultless: the table of laid out bytes is one that the reader accepts.
 -- packed-over: to pack a state over bytes that hold its table is to write the bytes behind the table's place.
--- pack-unpack, unpack-pack: the round trips. packed-fresh: the bytes of a fresh state.
+-- pack-unpack, unpack-pack: the round trips, the second of a state whose table has blank places beyond n. packed-fresh: the bytes of a fresh state.
 use mathlib.Core.Path.{_≡_, refl, sym, ap, ap₂, _∙_}
-use mathlib.Core.Bool.{Bool, true, false, not, _&&_}
+use mathlib.Core.Bool.{true, false}
 use mathlib.Core.Logic.{_⊎_, inl, inr}
 use mathlib.Core.List.{List, [], _∷_, _++_, append-assoc, append-nil}
 use Prim.Native.Nat.{ℕ, _≤_, _<_, _+_, _-_, _*_, _/_, _%_}
 use native.Mathlib.Nat.{add-zero, zero-add}
 use native.Mathlib.Omega.{arith}
-use lib.Dec.{eqb, leb}
+use lib.Dec.{eqb}
 use lib.ListN.{length, getD, take, drop, replicate, length-append, length-take, length-replicate, length-drop, getD-replicate, take-append-drop, drop-of-length-le, replicate-append-replicate, List·getD-append, List·getD-eq-default}
-use lib.Seq.{length-take-le, getD-take, take-at, take-all, ext-getD}
-use borrow.Author.Tests.{eqb-true, eq-eqb, le-leb, not-false}
-use Rattle.curves.specs.Every.{every, some}
+use lib.Seq.{length-take-le, getD-take, take-at, take-all}
+use borrow.Author.Tests.{eqb-true, eq-eqb, not-false}
+use Rattle.curves.specs.Every.{every}
 use Rattle.curves.proofs.SumLaws.{le-or-lt}
-use Rattle.curves.proofs.EveryLaws.{and-holds, or-fails, every-at}
+use Rattle.curves.proofs.EveryLaws.{and-holds, or-fails}
 use Rattle.lent.specs.Bytes.{get2, get4, le2, le4, zeros}
 use Rattle.lent.specs.Over.{over}
-use Rattle.lent.proofs.Replace.{over-own, over-length, over-over}
-use Rattle.lent.proofs.Inside.{part-after}
+use Rattle.lent.proofs.Replace.{over-own, over-length, over-over, part-after}
 use Rattle.lent.proofs.Spare.{zeros-part, zeros-all}
 use Rattle.lent.proofs.Trip.{le2-get2, le4-get4}
-use Rattle.table.specs.declared.Callback.{Callback}
 use Rattle.table.specs.declared.Refusal.{Refusal}
 use Rattle.table.specs.declared.Table.{Table}
-use Rattle.table.specs.Numbers.{places, entryPlaces}
+use Rattle.table.specs.Numbers.{places}
 use Rattle.table.specs.Values.{blank, callbackAt}
 use Rattle.reader.specs.Rules.{faultOf}
 use Rattle.reader.specs.Format.{recordStart, readFault, tableAt}
@@ -34,9 +32,9 @@ use Rattle.reader.proofs.Sound.{sound}
 use Rattle.reader.proofs.Accepted.{read-fits, read-few}
 use Rattle.reader.proofs.WrittenLaws.{past, zeros-past, run, one, TableFits, Writable, written-tableAt, length-written, header-written, tableAt-written, readFault-written}
 use Rattle.executor.specs.declared.Machine.{Machine}
-use Rattle.faults.proofs.ValueLaws.{read-faultless, some-miss}
+use Rattle.faults.proofs.ValueLaws.{read-faultless}
 use Rattle.executor.specs.State.{fresh, faulty}
-use Rattle.faults.specs.Faults.{isBlank, tableFault}
+use Rattle.faults.specs.Faults.{tableFault}
 use Rattle.layout.specs.Layout.{stateLength, waitingStart, finishedStart, clockStart, cacheStart, unitsStart, runningStart, spareStart, spareBytes, get2s, get4s, longs, tableEnd, tablePart, laidOut, unpackedWith, unpacked, packedTail, packed}
 use Rattle.layout.proofs.Runs.{two-bytes, four-bytes, length-all, get-one, gets-all, all-gets}
 
@@ -94,7 +92,7 @@ module _ (b : List ℕ) (l : Laid b) where
   pub length-part : length (tablePart b) ≡ tableEnd b
   length-part = length-take-le (tableEnd b) b (omega (arith, end-before, l .size))
 
-  -- the table is one that the reader accepts, and has blank places beyond n
+  -- the table is one that the reader accepts
   pub table-faultless : tableFault ((unpacked b) .table) ≡ false
   unfolding unpackedWith
   table-faultless = read-faultless (tablePart b) (l .read)
@@ -282,59 +280,20 @@ module _ (m : Machine) (f : MachineFits m) (w : Writable (m .table)) where
 
 -- ---- a state without faults
 
--- a blank place, by its tests
-blank-from : (c : Callback) → length (c .cost) ≡ entryPlaces → isBlank c ≡ true → c ≡ blank
-unfolding isBlank
-blank-from c l e =
-    let x = and-holds (eqb (c .kind) 0 && (eqb (c .next) 0 && eqb (c .entries) 0)) _ e in
-    let y = and-holds (eqb (c .kind) 0) _ (x .0) in
-    let z = and-holds (eqb (c .next) 0) _ (y .1) in
-    let u = and-holds (eqb (c .period) 0 && (eqb (c .jitter) 0 && eqb (c .distance) 0)) _ (x .1) in
-    let v = and-holds (eqb (c .period) 0) _ (u .0) in
-    let s = and-holds (eqb (c .jitter) 0) _ (v .1) in
-    joined (none (c .kind) (y .0)) (none (c .next) (z .0)) (none (c .entries) (z .1)) (none (c .period) (v .0)) (none (c .jitter) (s .0)) (none (c .distance) (s .1))
-    (ext-getD 0 (c .cost) (replicate entryPlaces 0) l
-    (λ i h.
-    let k : i < entryPlaces = omega arith in
-    none (getD (c .cost) i 0) (every-at (λ j. eqb (getD (c .cost) j 0) 0) entryPlaces (u .1) i k) ∙ sym (getD-replicate entryPlaces i 0 0 k)))
+-- a table whose places beyond n are blank, as a start and an unpacking give them
+abbrev pub BlankBeyond : Table → Type 0
+BlankBeyond t = (i : ℕ) → t .count ≤ i → i < places → callbackAt t i ≡ blank
+
+-- such a state is packed as a state that is laid out, and unpacked as it was
+pub unpack-pack : (m : Machine) → MachineFits m → faulty m ≡ false → BlankBeyond (m .table) → (laidOut (packed m) ≡ true) × (unpacked (packed m) ≡ m)
+unfolding faulty tableFault
+unpack-pack m f ok beyond = (laid-packed m f writable accepts, unpacked-packed m f writable)
   where
-    none : (x : ℕ) → eqb x 0 ≡ true → x ≡ 0
-    none x f = eqb-true x 0 f
+    accepts : (faultOf (m .table)) .number ≡ 0
+    accepts = eqb-true ((faultOf (m .table)) .number) 0 (not-false _ (or-fails (tableFault (m .table)) _ ok .0))
 
-    joined : {x y z u v s : ℕ} {es : List ℕ} → x ≡ 0 → y ≡ 0 → z ≡ 0 → u ≡ 0 → v ≡ 0 → s ≡ 0 → es ≡ replicate entryPlaces 0
-        → _≡_ {A = Callback} (record { kind = x; next = y; entries = z; period = u; jitter = v; distance = s; cost = es }) blank
-    joined ex ey ez eu ev es ec = simp (ex, ey, ez, eu, ev, es, ec)
-
-module _ (m : Machine) (f : MachineFits m) (ok : faulty m ≡ false) where
-  accepts : (faultOf (m .table)) .number ≡ 0
-  unfolding faulty tableFault
-  accepts =
-      let x = or-fails (tableFault (m .table)) _ ok in
-      let y = or-fails (not (eqb ((faultOf (m .table)) .number) 0)) _ (x .0) in
-      eqb-true ((faultOf (m .table)) .number) 0 (not-false _ (y .0))
-
-  writable : Writable (m .table)
-  unfolding faulty tableFault
-  writable =
-      let x = or-fails (tableFault (m .table)) _ ok in
-      let y = or-fails (not (eqb ((faultOf (m .table)) .number) 0)) _ (x .0) in
-      record {
-        fits = f .table;
-        count = sound (m .table) accepts .few;
-        beyond = λ i h l. blank-from (callbackAt (m .table) i) (f .table .callbacks i l .length-cost) (is-blank i h l (y .1));
-      }
-    where
-      is-blank : (i : ℕ) → m .table .count ≤ i → i < places
-          → some places (λ j. leb (m .table .count) j && not (isBlank (callbackAt (m .table) j))) ≡ false
-          → isBlank (callbackAt (m .table) i) ≡ true
-      is-blank i h l e =
-          not-false (isBlank (callbackAt (m .table) i))
-          (ap (λ (x : Bool). x && not (isBlank (callbackAt (m .table) i))) (sym (le-leb (m .table .count) i h))
-          ∙ some-miss (λ j. leb (m .table .count) j && not (isBlank (callbackAt (m .table) j))) places i e l)
-
-  -- a state without faults is packed as a state that is laid out, and unpacked as it was
-  pub unpack-pack : (laidOut (packed m) ≡ true) × (unpacked (packed m) ≡ m)
-  unpack-pack = (laid-packed m f writable accepts, unpacked-packed m f writable)
+    writable : Writable (m .table)
+    writable = record { fits = f .table; count = sound (m .table) accepts .few; beyond = beyond }
 
 -- ---- a fresh state: the table's own bytes, and zeros
 

@@ -57,11 +57,6 @@ module _ {w top : ℕ} {le : ℕ → List ℕ} {get : List ℕ → ℕ → ℕ} 
       ∙ c .behind (le x) (all xs ++ q) w (w * i) (c .wide x)
       ∙ get-all xs q i (omega arith) l
 
-  length-gets : (b : List ℕ) (k n : ℕ) → length (gets b k n) ≡ n
-  length-gets b k zero = ap length (c .gets-none b k)
-  length-gets b k (suc n) =
-      omega (arith, ap length (c .gets-more b k n), length-append (gets b k n) (get b (k + w * n) ∷ []), length-gets b k n)
-
   -- written behind a prefix, then read
   gets-front : (p q xs : List ℕ) (k n : ℕ) → length p ≡ k → n ≤ length xs → ((i : ℕ) → getD xs i 0 < top) → gets (p ++ (all xs ++ q)) k n ≡ take n xs
   gets-front p q xs k zero e h r = c .gets-none _ k

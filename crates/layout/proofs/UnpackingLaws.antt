@@ -11,7 +11,8 @@ use Rattle.reader.specs.declared.Reading.{Reading}
 use Rattle.reader.specs.Format.{tableAt, readFault, readOf}
 use Rattle.reader.proofs.Accepted.{reading-is, read-table}
 use Rattle.layout.specs.declared.Unpacked.{Unpacked}
-use Rattle.layout.specs.Layout.{tablePart, laidOut, unpacked, notLaid, unpacking}
+use Rattle.layout.specs.Layout.{tablePart, laidOut, unpacked}
+use Rattle.layout.specs.Parts.{notLaid, unpacking}
 use Rattle.layout.proofs.LayoutLaws.{Laid, laid, laid-out}
 
 pub not-laid : (b : List ℕ) → (Laid b → ⊥) → notLaid ≡ unpacking b

@@ -1,18 +1,16 @@
 -- The machine's state in lent bytes, little-endian: docs/STATE.md.
 -- 0 the table's own bytes, zero behind them; 528 waiting counts; 560 finished counts; 624 ticks taken; 628 cache; 630 units left; 632 running; 633 zero.
-use mathlib.Core.Bool.{Bool, true, false, not, _&&_}
+use mathlib.Core.Bool.{Bool, not, _&&_}
 use mathlib.Core.List.{List, [], _∷_, _++_}
 use Prim.Native.Nat.{ℕ, zero, suc, _+_, _-_, _*_}
 use lib.Dec.{eqb}
 use lib.ListN.{length, getD, take, replicate}
 use Rattle.lent.specs.Bytes.{get2, get4, le2, le4, zeros}
 use Rattle.table.specs.declared.Table.{Table}
-use Rattle.table.specs.Values.{blankTable}
 use Rattle.reader.specs.Format.{recordStart, readFault, tableAt}
 use Rattle.reader.specs.Written.{words, written}
 use Rattle.executor.specs.declared.Machine.{Machine}
-use Rattle.executor.specs.State.{fresh, faulty}
-use Rattle.layout.specs.declared.Unpacked.{Unpacked}
+use Rattle.executor.specs.State.{faulty}
 
 abbrev pub stateLength : ℕ
 stateLength = 640
@@ -96,14 +94,6 @@ packedTail m =
 -- the state in bytes
 unfoldable pub packed : Machine → List ℕ
 packed m = written (m .table) ++ (replicate (waitingStart - length (written (m .table))) 0 ++ packedTail m)
-
--- what unpacking gives where the bytes are not laid out as a state: a state that is zero throughout
-abbrev pub notLaid : Unpacked
-notLaid = record { laid = false; machine = fresh blankTable }
-
--- what unpacking gives: whether the bytes are laid out as a state, and the state
-unfoldable pub unpacking : List ℕ → Unpacked
-unpacking b = elim (laidOut b) [ true ↦ record { laid = true; machine = unpacked b } | false ↦ notLaid ]
 
 -- "bytes that hold no state": laid out otherwise, or with a fault
 unfoldable pub holdsState : List ℕ → Bool

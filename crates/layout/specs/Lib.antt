@@ -1,2 +1,3 @@
--- Layout: the state in lent bytes.
+-- Layout: the state in lent bytes. Parts: what unpacking gives.
 pub mod Layout
+pub mod Parts

@@ -20,7 +20,8 @@ ghost use lib.ListN.{length};
 ghost use Rattle.lent.specs.Bytes.{zeros};
 ghost use Rattle.lent.specs.Over.{over};
 ghost use Rattle.reader.specs.Written.{words};
-ghost use Rattle.layout.specs.Layout.{stateLength, waitingStart, finishedStart, spareStart, spareBytes, get2s, get4s, longs, unpackedWith, notLaid, unpacking, packedTail};
+ghost use Rattle.layout.specs.Layout.{stateLength, waitingStart, finishedStart, spareStart, spareBytes, get2s, get4s, longs, unpackedWith, packedTail};
+ghost use Rattle.layout.specs.Parts.{notLaid, unpacking};
 
 pub mod numbers;
 

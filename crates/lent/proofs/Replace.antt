@@ -1,7 +1,7 @@
--- Laws of over: its length, one place more, two parts one behind the other, and the stores that make a part. Assumes nothing.
+-- Laws of over: its length, one place more, two parts one behind the other, the stores that make a part, and what stands behind it. Assumes nothing.
 use mathlib.Core.Path.{_≡_, refl, sym, ap, ap₂, _∙_}
 use mathlib.Core.List.{List, [], _∷_, _++_, append-assoc, append-nil}
-use Prim.Native.Nat.{ℕ, suc, _≤_, _<_, _+_}
+use Prim.Native.Nat.{ℕ, suc, _≤_, _<_, _+_, _-_}
 use native.Mathlib.Numerals.{add-one}
 use native.Mathlib.Nat.{add-zero}
 use native.Mathlib.Omega.{arith}
@@ -116,16 +116,20 @@ module _ (b : List ℕ) (k : ℕ) where
   pub over-replicate-length : (v i n : ℕ) → i ≤ n → k + n ≤ length b → length (over b k (replicate i v)) ≡ length b
   over-replicate-length v i n h l = over-length b k (replicate i v) (omega (arith, length-replicate i v))
 
--- a part written twice
-pub over-again : (b : List ℕ) (k : ℕ) (vs ws : List ℕ) → length vs ≡ length ws → k + length vs ≤ length b → over (over b k vs) k ws ≡ over b k ws
-unfolding over
-over-again b k vs ws e h =
-    let p : length (take k b) ≡ k = length-take-le k b (omega arith) in
-    let f : k + length ws ≡ k + length vs = omega arith in
-    let t : take k (over b k vs) ≡ take k b = take-at (take k b) (vs ++ drop (k + length vs) b) k p in
-    let d : drop (k + length ws) (over b k vs) ≡ drop (k + length ws) b =
-    ap (λ (j : ℕ). drop j (over b k vs)) f
-    ∙ ap (drop (k + length vs)) (sym (append-assoc (take k b) vs (drop (k + length vs) b)))
-    ∙ drop-at (take k b ++ vs) (drop (k + length vs) b) (k + length vs) (head-length b k vs h)
-    ∙ ap (λ (j : ℕ). drop j b) (sym f) in
-    ap₂ (λ (x y : List ℕ). x ++ (ws ++ y)) t d
+-- what stands behind a part that is replaced is kept
+module _ (b : List ℕ) (k : ℕ) (vs : List ℕ) (fits : k + length vs ≤ length b) where
+  behind : drop (k + length vs) (over b k vs) ≡ drop (k + length vs) b
+  unfolding over
+  behind =
+      ap (drop (k + length vs)) (sym (append-assoc (take k b) vs (drop (k + length vs) b)))
+      ∙ drop-at (take k b ++ vs) (drop (k + length vs) b) (k + length vs) (head-length b k vs fits)
+
+  pub part-after : (j n : ℕ) → k + length vs ≤ j → take n (drop j (over b k vs)) ≡ take n (drop j b)
+  part-after j n h =
+      let e : k + length vs + (j - (k + length vs)) ≡ j = omega arith in
+      ap (take n)
+      (ap (λ (i : ℕ). drop i (over b k vs)) (sym e)
+      ∙ sym (drop-drop (j - (k + length vs)) (k + length vs) (over b k vs))
+      ∙ ap (drop (j - (k + length vs))) behind
+      ∙ drop-drop (j - (k + length vs)) (k + length vs) b
+      ∙ ap (λ (i : ℕ). drop i b) e)

@@ -4,7 +4,7 @@ use mathlib.Core.Bool.{Bool, true, false, _&&_}
 use mathlib.Core.Logic.{⊎-elim}
 use mathlib.Core.List.{List}
 use Prim.Native.Nat.{ℕ, zero, suc, _≤_, _<_, _+_, _-_}
-use native.Mathlib.Nat.{eq-or-lt-of-le, le-of-suc-le-suc, zero-add}
+use native.Mathlib.Nat.{eq-or-lt-of-le, le-of-suc-le-suc}
 use native.Mathlib.Omega.{arith}
 use lib.ListN.{length, getD, take, drop, replicate, length-replicate, length-drop, getD-replicate}
 use lib.Seq.{ext-getD, length-take-le, getD-take, getD-drop}
@@ -12,9 +12,7 @@ use lib.Bits.{bitOr, or-zero-l, or-add-and, and-le-r}
 use lib.Dec.{eqb}
 use native.Mathlib.Decide.{ℕ-discrete}
 use borrow.Author.Tests.{eq-eqb, ne-eqb, eqb-true}
-use Rattle.lent.specs.Over.{over}
 use Rattle.lent.specs.Bytes.{zeros}
-use Rattle.lent.proofs.Inside.{over-before, over-inside, over-after}
 
 first-of : (x y : Bool) → (x && y) ≡ true → x ≡ true
 first-of true y e = refl
@@ -23,10 +21,6 @@ first-of false y e = e
 second-of : (x y : Bool) → (x && y) ≡ true → y ≡ true
 second-of true y e = e
 second-of false y e = absurd (let z : _≡_ {A = ℕ} 0 1 = cc in omega arith)
-
-and-false : (x : Bool) → (x && false) ≡ false
-and-false true = refl
-and-false false = refl
 
 -- ---- a run and its bytes
 
@@ -46,14 +40,6 @@ unfolding zeros
 zeros-all b k zero each = refl
 zeros-all b k (suc n) each =
     ap₂ _&&_ (zeros-all b k n (λ i l. each i (omega arith))) (eq-eqb (getD b (k + n) 0) 0 (each n (omega arith)))
-
--- a byte that is not zero
-pub zeros-miss : (b : List ℕ) (k n i : ℕ) → i < n → (getD b (k + i) 0 ≡ 0 → ⊥) → zeros b k n ≡ false
-zeros-miss b k n i l ne = go (zeros b k n) refl
-  where
-    go : (x : Bool) → zeros b k n ≡ x → x ≡ false
-    go true e = absurd (ne (zeros-at b k n i e l))
-    go false e = refl
 
 -- ---- the bytes from k up to but not including a place, taken together by `|`
 
@@ -93,22 +79,3 @@ zeros-part b k n h e =
     (λ i q.
     let r : i < n = omega arith in
     getD-take n (drop k b) i 0 r ∙ getD-drop k b i 0 ∙ zeros-at b k n i e r ∙ sym (getD-replicate n i 0 0 r))
-
--- ---- after a write
-
-module _ (b : List ℕ) (k : ℕ) (vs : List ℕ) (fits : k + length vs ≤ length b) where
-  pub zeros-before : (j n : ℕ) → j + n ≤ k → zeros (over b k vs) j n ≡ zeros b j n
-  zeros-before j n h = zeros-same (over b k vs) b j j n (λ i l. over-before b k vs fits (j + i) (omega arith))
-
-  pub zeros-inside : (n : ℕ) → n ≤ length vs → zeros (over b k vs) k n ≡ zeros vs 0 n
-  zeros-inside n h = zeros-same (over b k vs) vs k 0 n (λ i l. over-inside b k vs fits i (omega arith) ∙ ap (λ (j : ℕ). getD vs j 0) (sym (zero-add i)))
-
-  pub zeros-after : (j n : ℕ) → k + length vs ≤ j → zeros (over b k vs) j n ≡ zeros b j n
-  zeros-after j n h = zeros-same (over b k vs) b j j n (λ i l. over-after b k vs fits (j + i) (omega arith))
-
--- what was zeroed
-pub zeros-zeroed : (b : List ℕ) (k n : ℕ) → k + n ≤ length b → zeros (over b k (replicate n 0)) k n ≡ true
-zeros-zeroed b k n h =
-    let e : length {A = ℕ} (replicate n 0) ≡ n = length-replicate n 0 in
-    zeros-all (over b k (replicate n 0)) k n
-    (λ i l. over-inside b k (replicate n 0) (omega arith) i (omega arith) ∙ getD-replicate n i 0 0 l)

@@ -2,14 +2,10 @@
 use mathlib.Core.Path.{_≡_, sym, ap, ap₂, _∙_}
 use mathlib.Core.List.{List, [], _∷_, _++_}
 use Prim.Native.Nat.{ℕ, suc, _≤_, _<_, _+_, _*_, _/_, _%_}
-use native.Mathlib.Nat.{add-zero}
 use native.Mathlib.Omega.{arith}
 use lib.ListN.{length, take, drop, getD}
 use lib.Seq.{drop-cons}
-use Rattle.lent.specs.Over.{over}
 use Rattle.lent.specs.Bytes.{get2, get4, le2, le4}
-use Rattle.lent.proofs.Replace.{over-own}
-use Rattle.lent.proofs.Inside.{get2-inside, get4-inside}
 
 -- ---- written, then read
 
@@ -23,15 +19,6 @@ get4-le4 x rest h =
   where
     parts : (x : ℕ) → x % 256 + x / 256 % 256 * 256 + x / 65536 % 256 * 65536 + x / 16777216 * 16777216 ≡ x
     parts x = omega arith
-
--- in the bytes that they were written to
-pub get2-put : (b : List ℕ) (k x : ℕ) → k + 2 ≤ length b → x < 65536 → get2 (over b k (le2 x)) k ≡ x
-get2-put b k x h l =
-    ap (get2 (over b k (le2 x))) (sym (add-zero k)) ∙ get2-inside b k (le2 x) h 0 (omega arith) ∙ get2-le2 x [] l
-
-pub get4-put : (b : List ℕ) (k x : ℕ) → k + 4 ≤ length b → x < 4294967296 → get4 (over b k (le4 x)) k ≡ x
-get4-put b k x h l =
-    ap (get4 (over b k (le4 x))) (sym (add-zero k)) ∙ get4-inside b k (le4 x) h 0 (omega arith) ∙ get4-le4 x [] l
 
 -- ---- read, then written
 
@@ -84,9 +71,6 @@ module _ (b : List ℕ) (k : ℕ) (bytes : (i : ℕ) → getD b i 0 < 256) where
   pub get2-lt : get2 b k < 65536
   get2-lt = omega (arith, bytes k, bytes (k + 1))
 
-  pub get4-lt : get4 b k < 4294967296
-  get4-lt = omega (arith, bytes k, bytes (k + 1), bytes (k + 2), bytes (k + 3))
-
   -- the bytes of what was read are those that it was read from
   pub le2-get2 : k + 2 ≤ length b → le2 (get2 b k) ≡ take 2 (drop k b)
   le2-get2 h = digits2 (getD b k 0) (getD b (k + 1) 0) (bytes k) (bytes (k + 1)) ∙ sym (part2 b k h)
@@ -96,10 +80,3 @@ module _ (b : List ℕ) (k : ℕ) (bytes : (i : ℕ) → getD b i 0 < 256) where
       digits4 (getD b k 0) (getD b (k + 1) 0) (getD b (k + 2) 0) (getD b (k + 3) 0)
       (bytes k) (bytes (k + 1)) (bytes (k + 2)) (bytes (k + 3))
       ∙ sym (part4 b k h)
-
-  -- so that to write it there again changes nothing
-  pub put-get2 : k + 2 ≤ length b → over b k (le2 (get2 b k)) ≡ b
-  put-get2 h = ap (over b k) (le2-get2 h) ∙ over-own b k 2 h
-
-  pub put-get4 : k + 4 ≤ length b → over b k (le4 (get4 b k)) ≡ b
-  put-get4 h = ap (over b k) (le4-get4 h) ∙ over-own b k 4 h

@@ -12,10 +12,9 @@ use Rattle.guarantee.specs.History.{Said, said, replies}
 use Rattle.guarantee.specs.Within.{WithinCurves}
 use Rattle.guarantee.specs.Claim.{Kept}
 use Rattle.guarantee.proofs.Guarantee.{guarantee}
-use Rattle.cuorfelt.specs.declared.Said as edge
 use Rattle.cuorfelt.specs.Edge.{saidOf, saidBy}
-use Rattle.cuorfelt.specs.Lent.{Call, called, saidFrom}
-use Rattle.cuorfelt.proofs.Lent.{heard-said, flag-heard, lent-said}
+use Rattle.cuorfelt.specs.Lent.{Call}
+use Rattle.cuorfelt.proofs.Lent.{called, saidFrom, heard-said, flag-heard, lent-said}
 use Rattle.lent_guarantee.specs.Claim.{ticks, hears, heardFrom, LentGuarantee}
 
 -- a host hears what the tick says

@@ -64,10 +64,6 @@ gather-same p q n same =
     mask-ext n (gather p n) (gather q n) (gather-lt p n) (gather-lt q n)
     (λ i h. gather-in p n i h ∙ same i h ∙ sym (gather-in q n i h))
 
--- a mask of n slots is gathered from its own
-pub gather-own : (m n : ℕ) → m < 2 ^ n → gather (has m) n ≡ m
-gather-own m n h = mask-ext n (gather (has m) n) m (gather-lt (has m) n) h (λ i l. gather-in (has m) n i l)
-
 -- of the sixteen slots
 pub gather-mask : (p : ℕ → Bool) (n : ℕ) → n ≤ 16 → gather p n < 65536
 gather-mask p n h = lt-of-lt-of-le (gather-lt p n) (pow-mono h)

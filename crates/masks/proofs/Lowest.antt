@@ -4,12 +4,13 @@ use mathlib.Core.Path.{_≡_, refl, sym, ap, _∙_}
 use mathlib.Core.Bool.{Bool, true, false}
 use mathlib.Core.Logic.{⊎-elim}
 use Prim.Native.Nat.{ℕ, zero, suc, _+_, _/_, _%_, _≤_, _<_}
-use native.Mathlib.Nat.{eq-or-lt-of-le, add-zero}
+use native.Mathlib.Nat.{eq-or-lt-of-le}
 use native.Mathlib.Omega.{arith}
 use lib.Dec.{eqb}
 use lib.Count.{trailingZeros, under}
-use Rattle.masks.specs.Mask.{has, firstFrom, firstOf}
-use Rattle.masks.proofs.Slots.{digit, low-lt, has-low, has-half, mask-none, has-zero}
+use Rattle.masks.specs.Mask.{has}
+use Rattle.masks.specs.Parts.{firstFrom, firstOf}
+use Rattle.masks.proofs.Slots.{digit, low-lt, has-low, has-half, mask-none}
 
 -- ---- one step of the search
 
@@ -57,11 +58,6 @@ unfolding firstFrom
 first-le zero i m = omega arith
 first-le (suc n) i m = by-first (λ (x : ℕ). x ≤ i + suc n) n i m (λ e. omega arith) (λ e. omega (arith, first-le n (suc i) m))
 
-pub first-from : (n i m : ℕ) → i ≤ firstFrom n i m
-unfolding firstFrom
-first-from zero i m = omega arith
-first-from (suc n) i m = by-first (λ (x : ℕ). i ≤ x) n i m (λ e. omega arith) (λ e. omega (arith, first-from n (suc i) m))
-
 -- the mask has it, where it is one of those looked at
 pub first-set : (n i m : ℕ) → firstFrom n i m < i + n → has m (firstFrom n i m) ≡ true
 unfolding firstFrom
@@ -85,25 +81,6 @@ first-is (suc n) i m k l h e none =
     (λ (q : i < k). first-later n i m (none i (omega arith) q) ∙ first-is n (suc i) m k q (omega arith) e (λ j a b. none j (omega arith) b))
     (eq-or-lt-of-le l)
 
--- none of those looked at
-pub first-none : (n i m : ℕ) → ((j : ℕ) → i ≤ j → j < i + n → has m j ≡ false) → firstFrom n i m ≡ i + n
-unfolding firstFrom
-first-none zero i m none = sym (add-zero i)
-first-none (suc n) i m none =
-    let rest : firstFrom n (suc i) m ≡ suc i + n = first-none n (suc i) m (λ j a b. none j (omega arith) (omega arith)) in
-    first-later n i m (none i (omega arith) (omega arith)) ∙ omega arith
-
--- it goes by the slots looked at alone
-pub first-same : (n i a b : ℕ) → ((j : ℕ) → i ≤ j → j < i + n → has a j ≡ has b j) → firstFrom n i a ≡ firstFrom n i b
-unfolding firstFrom
-first-same zero i a b same = refl
-first-same (suc n) i a b same = go (first-same n (suc i) a b (λ j l h. same j (omega arith) (omega arith)))
-  where
-    go : firstFrom n (suc i) a ≡ firstFrom n (suc i) b → firstFrom (suc n) i a ≡ firstFrom (suc n) i b
-    go r = by-first (λ (x : ℕ). x ≡ firstFrom (suc n) i b) n i a
-        (λ e. sym (first-here n i b (sym (same i (omega arith) (omega arith)) ∙ e)))
-        (λ e. r ∙ sym (first-later n i b (sym (same i (omega arith) (omega arith)) ∙ e)))
-
 -- ---- of sixteen
 
 pub first-of-le : (m : ℕ) → firstOf m ≤ 16
@@ -118,16 +95,8 @@ pub first-of-below : (m k : ℕ) → k < firstOf m → has m k ≡ false
 unfolding firstOf
 first-of-below m k h = first-none-below 16 0 m k (omega arith) h
 
-pub first-of-none : (m : ℕ) → ((k : ℕ) → k < 16 → has m k ≡ false) → firstOf m ≡ 16
-unfolding firstOf
-first-of-none m none = first-none 16 0 m (λ j l h. none j h)
-
 pub none-of-first : (m k : ℕ) → firstOf m ≡ 16 → k < 16 → has m k ≡ false
 none-of-first m k e h = first-of-below m k (omega arith)
-
--- a mask of sixteen bits has no first slot just where it is 0
-pub first-of-zero : firstOf 0 ≡ 16
-first-of-zero = first-of-none 0 (λ k h. has-zero k)
 
 pub zero-of-first : (m : ℕ) → m < 65536 → firstOf m ≡ 16 → m ≡ 0
 zero-of-first m l e = mask-none 16 m l (λ k h. none-of-first m k e h)

@@ -9,7 +9,8 @@ use lib.Arith.{lt-one}
 use lib.Bits.{bitAnd, bitOr, and-step}
 use lib.Pow.{pow-pos, pow-lt}
 use borrow.Author.Tests.{ne-eqb}
-use Rattle.masks.specs.Mask.{has, withBit, withoutBit, except}
+use Rattle.masks.specs.Mask.{has, withBit, withoutBit}
+use Rattle.masks.specs.Parts.{except}
 use Rattle.masks.proofs.Slots.{digit, digits, bit-lt, low-lt, half-lt, and-pow, with-or, without-except}
 
 -- the mask of one slot

@@ -11,7 +11,8 @@ use lib.Arith.{lt-one}
 use lib.Bits.{bitAnd, bitOr, and-step, and-le-l, and-block, and-mask, and-zero-r, and-shr, and-mod, or-shr, or-mod, or-add-and, or-lt}
 use lib.Pow.{split, pow-pos, pow-lt, pow-mono, shr-lt}
 use borrow.Author.Tests.{eq-eqb, ne-eqb}
-use Rattle.masks.specs.Mask.{has, withBit, withoutBit, except}
+use Rattle.masks.specs.Mask.{has, withBit, withoutBit}
+use Rattle.masks.specs.Parts.{except}
 
 -- ---- a bit is 0 or 1
 
@@ -187,9 +188,6 @@ with-lt n m i h l = rw with-or (or-lt n m (2 ^ i) h (pow-lt l))
 pub without-le : (m i : ℕ) → withoutBit m i ≤ m
 unfolding except
 without-le m i = rw without-except (omega arith)
-
-pub without-lt : (n m i : ℕ) → m < 2 ^ n → withoutBit m i < 2 ^ n
-without-lt n m i h = omega (arith, without-le m i)
 
 pub except-lt : (n a b : ℕ) → a < 2 ^ n → except a b < 2 ^ n
 unfolding except

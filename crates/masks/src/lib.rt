@@ -4,7 +4,8 @@
 
 ghost use mathlib.Core.Path.{_≡_};
 ghost use Prim.Native.Nat.{ℕ, _<_};
-ghost use Rattle.masks.specs.Mask.{has, withBit, withoutBit, countOf, firstOf};
+ghost use Rattle.masks.specs.Mask.{has, withBit, withoutBit, countOf};
+ghost use Rattle.masks.specs.Parts.{firstOf};
 
 // Whether the mask has the slot.
 pub fn test_slot(mask: u16, slot: u16) -> bool

@@ -1,5 +1,5 @@
 -- What step 3 gives, in masks and by the table.
---   foremost-hit, chosen-waits           whoever is first in priority passes; the chosen one waits
+--   chosen-waits                         the chosen one waits
 --   first-timer, first-cached, at-poll   what is chosen in masks: where a timer waits, where the cache has one, at a polling point
 --   foremost-same, choose-law            the choice in masks is that of step 3
 use mathlib.Core.Path.{_≡_, refl, subst, sym, ap, ap₂, _∙_}
@@ -7,51 +7,31 @@ use mathlib.Core.Logic.{_≢_}
 use mathlib.Core.Bool.{Bool, true, false, not, _&&_}
 use mathlib.Core.List.{List}
 use Prim.Native.Nat.{ℕ, zero, suc, _≤_, _<_}
-use native.Mathlib.Omega.{arith}
 use lib.Dec.{T, eqb, ltb→lt}
 use lib.ListN.{getD}
-use Rattle.masks.specs.Mask.{has, both, except, countOf, gather}
+use Rattle.masks.specs.Mask.{has, countOf, gather}
+use Rattle.masks.specs.Parts.{both, except}
 use Rattle.masks.proofs.Slots.{has-and, has-except, except-lt, mask-ext}
 use Rattle.masks.proofs.Gather.{gather-in, gather-lt}
-use Rattle.curves.specs.Least.{lowest}
-use Rattle.curves.proofs.LeastLaws.{lowest-hit, lowest-same}
+use Rattle.curves.proofs.LeastLaws.{lowest-same}
+use Rattle.curves.proofs.EveryLaws.{and-both}
 use Rattle.table.specs.declared.Table.{Table}
 use Rattle.table.specs.declared.Kinds as masked
 use Rattle.table.specs.Numbers.{places, timer, client}
 use Rattle.table.specs.Values.{kindOf}
-use Rattle.table.specs.Priority.{foremostFrom, foremost, foremostIn, kindsTo, kindsOf}
-use Rattle.table.proofs.PriorityLaws.{foremost-law}
+use Rattle.table.specs.Priority.{foremostFrom, foremost}
+use Rattle.table.specs.Parts.{foremostIn, kindsTo, kindsOf}
+use Rattle.table.proofs.PriorityLaws.{foremost-law, foremost-hit}
 use Rattle.queues.specs.declared.Choice.{Choice}
-use Rattle.queues.specs.Choosing.{isPolled, choice, gatheredOf, pollingPoint, choose, pollIn, chooseIn}
+use Rattle.queues.specs.Choosing.{isPolled, choice, gatheredOf, pollingPoint, choose}
+use Rattle.queues.specs.Parts.{pollIn, chooseIn}
 use Rattle.queues.specs.Queues.{waits}
-
-pub and-both : (a b : Bool) → T (a && b) → T a × T b
-and-both true b t = (tt, t)
-and-both false b t = absurd t
 
 -- a choice by what its two searches find, and by what a poll would give
 abbrev pub chosenOf : ℕ → ℕ → ℕ → Choice → Choice
 chosenOf c x y z = elim x [ suc i ↦ choice (suc i) c false 0 | zero ↦ elim y [ suc i ↦ choice (suc i) c false 0 | zero ↦ z ] ]
 
 -- ---- the chosen one waits
-
-module _ (t : Table) (p : ℕ → Bool) where
-  hit-from : (f kind i : ℕ) → foremostFrom t p f kind ≡ suc i → (i < t .count) × T (p i)
-  unfolding foremostFrom
-  hit-from zero kind i e = absurd (omega arith)
-  hit-from (suc f) kind i e = go (lowest (λ i. eqb (kindOf t i) kind && p i) (t .count)) refl e (hit-from f (suc kind) i)
-    where
-      go : (x : ℕ) → lowest (λ i. eqb (kindOf t i) kind && p i) (t .count) ≡ x
-          → elim x [ zero ↦ foremostFrom t p f (suc kind) | suc i ↦ suc i ] ≡ suc i
-          → (foremostFrom t p f (suc kind) ≡ suc i → (i < t .count) × T (p i)) → (i < t .count) × T (p i)
-      go zero q x r = r x
-      go (suc j) q x r =
-          let a = lowest-hit (λ i. eqb (kindOf t i) kind && p i) (t .count) i (q ∙ x) in
-          (a .0, and-both (eqb (kindOf t i) kind) (p i) (a .1) .1)
-
-  -- whoever is found passes
-  pub foremost-hit : (i : ℕ) → foremost t p ≡ suc i → (i < t .count) × T (p i)
-  foremost-hit i e = hit-from client timer i e
 
 -- where the cached ones wait, so does the chosen one
 pub chosen-waits : (t : Table) (c : ℕ) (ws : List ℕ) → ((i : ℕ) → i < t .count → T (has c i) → 0 < getD ws i 0)

@@ -1,6 +1,6 @@
 -- Queues that are full, slot by slot, and the next that a completion activates. Assumes nothing.
 -- lowest-is, lowest-never: the lowest slot that passes. full-hit, full-miss, full-end: a mask's slots one after the other.
--- full-alone, full-one: with the callback that is activated. activated-none, activated-some: the next of a completion gains 1.
+-- full-alone, full-past, full-one: with the callback that is activated. activated-none, activated-some: the next of a completion gains 1.
 use mathlib.Core.Path.{_≡_, refl, sym, ap, ap₂, _∙_}
 use mathlib.Core.Logic.{_≢_}
 use mathlib.Core.Bool.{Bool, true, false, not, _&&_, _||_}
@@ -12,7 +12,8 @@ use native.Mathlib.Omega.{arith}
 use lib.Dec.{T, eqb, leb}
 use lib.ListN.{getD}
 use borrow.Author.Tests.{eq-eqb, ne-eqb, le-leb, lt-leb}
-use Rattle.masks.specs.Mask.{has, withBit, withoutBit, firstOf}
+use Rattle.masks.specs.Mask.{has, withBit, withoutBit}
+use Rattle.masks.specs.Parts.{firstOf}
 use Rattle.masks.proofs.Slots.{has-zero, has-with, has-without-other}
 use Rattle.masks.proofs.Lowest.{first-of-below}
 use Rattle.curves.specs.Least.{lowest}
@@ -20,7 +21,8 @@ use Rattle.curves.proofs.LeastLaws.{First, byIndex, lowest-least, least-is, low
 use Rattle.curves.proofs.EveryLaws.{T-holds, T-fails}
 use Rattle.table.specs.Numbers.{places}
 use Rattle.queues.specs.Numbers.{mostWaiting}
-use Rattle.queues.specs.Queues.{gained, activated, fullIn, fullWith}
+use Rattle.queues.specs.Queues.{gained, activated, fullWith}
+use Rattle.queues.specs.Parts.{fullIn}
 use Rattle.queues.proofs.SlotLaws.{lowest-set}
 
 -- ---- the lowest slot that passes
@@ -78,11 +80,17 @@ module _ (ws : List ℕ) (mask x : ℕ) where
   or-false true = refl
   or-false false = refl
 
-  pub full-alone : x ≡ 0 → fullIn ws mask ≡ fullWith ws mask x
+  alone : ((j : ℕ) → j < places → x ≢ suc j) → fullIn ws mask ≡ fullWith ws mask x
   unfolding fullIn fullWith
-  full-alone z =
+  alone nobody =
       lowest-same _ _ places
-      (λ j l. ap (λ (b : Bool). b && leb mostWaiting (getD ws j 0)) (or-false (has mask j) ∙ ap (λ (b : Bool). has mask j || b) (sym (ne-eqb x (suc j) (λ q. omega arith)))))
+      (λ j l. ap (λ (b : Bool). b && leb mostWaiting (getD ws j 0)) (or-false (has mask j) ∙ ap (λ (b : Bool). has mask j || b) (sym (ne-eqb x (suc j) (nobody j l)))))
+
+  pub full-alone : x ≡ 0 → fullIn ws mask ≡ fullWith ws mask x
+  full-alone z = alone (λ j l q. omega arith)
+
+  pub full-past : places < x → fullIn ws mask ≡ fullWith ws mask x
+  full-past h = alone (λ j l q. omega arith)
 
   pub full-one : (y : ℕ) → x ≢ 0 → y ≡ withBit mask (x - 1) → fullIn ws y ≡ fullWith ws mask x
   unfolding fullIn fullWith

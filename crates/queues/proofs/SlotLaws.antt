@@ -9,7 +9,8 @@ use native.Mathlib.Nat.{eq-or-lt-of-le}
 use native.Mathlib.Numerals.{add-one}
 use native.Mathlib.Omega.{arith}
 use lib.Pow.{pow-pos}
-use Rattle.masks.specs.Mask.{has, withBit, withoutBit, firstOf, gather}
+use Rattle.masks.specs.Mask.{has, withBit, withoutBit, gather}
+use Rattle.masks.specs.Parts.{firstOf}
 use Rattle.masks.proofs.Lowest.{first-of-le, first-of-set, zero-of-first}
 
 pub first-below : (m : ℕ) → m < 65536 → m ≢ 0 → firstOf m < 16

@@ -2,11 +2,10 @@
 use mathlib.Core.Bool.{Bool, true, false, not, _&&_}
 use mathlib.Core.List.{List}
 use Prim.Native.Nat.{ℕ, zero, suc}
-use Rattle.masks.specs.Mask.{has, both, except, gather, countOf}
-use Rattle.table.specs.declared.Kinds.{Kinds}
+use Rattle.masks.specs.Mask.{has, gather, countOf}
 use Rattle.table.specs.declared.Table.{Table}
 use Rattle.table.specs.Numbers.{places}
-use Rattle.table.specs.Priority.{isTimer, foremost, foremostIn}
+use Rattle.table.specs.Priority.{isTimer, foremost}
 use Rattle.queues.specs.declared.Choice.{Choice}
 use Rattle.queues.specs.Queues.{waits}
 
@@ -31,16 +30,4 @@ choose t c ws =
     elim (foremost t (λ i. not (isPolled t i) && waits ws i)) [
       | suc i ↦ choice (suc i) c false 0
       | zero ↦ elim (foremost t (has c)) [ suc i ↦ choice (suc i) c false 0 | zero ↦ pollingPoint t (gatheredOf t ws) ]
-    ]
-
--- a polling point in masks: the slots gathered, and the first of them
-abbrev pub pollIn : Kinds → ℕ → Choice
-pollIn k g = choice (foremostIn k g) g true (countOf places g)
-
--- step 3 in masks: the slots of each kind, the cache, and the slots that wait
-unfoldable pub chooseIn : Kinds → ℕ → ℕ → Choice
-chooseIn k c w =
-    elim (foremostIn k (both (k .timers) w)) [
-      | suc i ↦ choice (suc i) c false 0
-      | zero ↦ elim (foremostIn k c) [ suc i ↦ choice (suc i) c false 0 | zero ↦ pollIn k (except w (k .timers)) ]
     ]

@@ -31,10 +31,6 @@ activated (suc j) ws = gained j ws
 abbrev pub waits : List ℕ → ℕ → Bool
 waits ws i = ltb 0 (getD ws i 0)
 
--- the lowest slot of a mask that has 255 waiting, as an index; 0 where none has
-unfoldable pub fullIn : List ℕ → ℕ → ℕ
-fullIn ws mask = lowest (λ j. has mask j && leb mostWaiting (getD ws j 0)) places
-
 -- 21: "a head in the mask has 255 waiting .., or a next .. has 255 (lowest such)": of a mask and one callback more, of an index
 unfoldable pub fullWith : List ℕ → ℕ → ℕ → ℕ
 fullWith ws mask x = lowest (λ j. (has mask j || eqb x (suc j)) && leb mostWaiting (getD ws j 0)) places

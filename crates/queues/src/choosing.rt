@@ -9,7 +9,7 @@ ghost use Prim.Native.Nat.{ℕ, _≤_};
 ghost use Rattle.masks.specs.Mask.{gather, countOf};
 ghost use Rattle.table.specs.Numbers.{places};
 ghost use Rattle.queues.specs.Queues.{waits};
-ghost use Rattle.queues.specs.Choosing.{chooseIn};
+ghost use Rattle.queues.specs.Parts.{chooseIn};
 
 // The slots below n that wait.
 pub fn waiting_slots(waiting: [u16; 16], n: u8) -> u16

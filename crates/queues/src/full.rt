@@ -1,11 +1,12 @@
 // Queues that are full: 255 instances wait.
 
 use super::numbers::MOST_WAITING;
+use super::numbers::PLACES;
 use super::slots::lowest;
 ghost use mathlib.Core.Path.{_≡_};
-ghost use Prim.Native.Nat.{ℕ, _≤_};
-ghost use Rattle.table.specs.Numbers.{places};
-ghost use Rattle.queues.specs.Queues.{fullIn, fullWith};
+ghost use Prim.Native.Nat.{ℕ};
+ghost use Rattle.queues.specs.Queues.{fullWith};
+ghost use Rattle.queues.specs.Parts.{fullIn};
 
 // The lowest callback of the mask that has 255 waiting; 0 where none has.
 fn first_full(waiting: [u16; 16], mask: u16) -> u8
@@ -22,12 +23,15 @@ fn first_full(waiting: [u16; 16], mask: u16) -> u8
     0
 }
 
-// The lowest callback with 255 waiting, of the mask and of the one that is activated; 0 where none has.
+// The lowest callback with 255 waiting, of the mask and of the one that is activated; 0 where none has. No callback is activated where
+// next is 0, or the index of no place.
 pub fn full_with(waiting: [u16; 16], mask: u16, next: u8) -> u8
-    requires { ⌜ next ≤ places ⌝ }
     ensures { λ r. ⌜ r ≡ fullWith waiting mask next ⌝ }
 {
     if next == 0 {
+        return first_full(waiting, mask);
+    }
+    if next > PLACES {
         return first_full(waiting, mask);
     }
     first_full(waiting, masks::set_slot(mask, (next - 1) as u16))

@@ -2,7 +2,7 @@
 
 ghost use mathlib.Core.Path.{_≡_};
 ghost use Prim.Native.Nat.{ℕ, _<_};
-ghost use Rattle.masks.specs.Mask.{firstOf, except};
+ghost use Rattle.masks.specs.Parts.{firstOf, except};
 ghost use Rattle.table.specs.Numbers.{places};
 
 // The lowest slot of a mask that has one.

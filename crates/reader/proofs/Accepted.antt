@@ -25,7 +25,8 @@ use Rattle.reader.specs.Rules.{faultWith, faultOf}
 use Rattle.reader.specs.Format.{recordAt, spareAt, recordStart, recordsTo, tableAt, sparesAt, readFault, refusedReading, readOf}
 use Rattle.reader.proofs.FormatLaws.{read-short, read-long, reading-refused, reading-whole}
 use Rattle.reader.proofs.Passed
-use Rattle.reader.proofs.Sound.{Sound, sound}
+use Rattle.reader.proofs.Sound.{sound}
+use Rattle.reader.specs.Parts.{Sound}
 
 -- ---- the places
 

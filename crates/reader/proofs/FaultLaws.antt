@@ -8,7 +8,8 @@ use Prim.Native.Nat.{ℕ, _-_, _^_, _≤_, _<_}
 use native.Mathlib.Omega.{arith}
 use lib.Dec.{eqb, leb}
 use borrow.Author.Tests.{eq-eqb, ne-eqb, lt-ltb, le-ltb, le-leb, lt-leb}
-use Rattle.masks.specs.Mask.{has, both, gather, except}
+use Rattle.masks.specs.Mask.{has, gather}
+use Rattle.masks.specs.Parts.{both, except}
 use Rattle.masks.proofs.Gather.{gather-in}
 use Rattle.curves.specs.Least.{lowest}
 use Rattle.curves.proofs.LeastLaws.{lowest-same}
@@ -17,8 +18,8 @@ use Rattle.table.specs.declared.Names.{Names}
 use Rattle.table.specs.declared.Table.{Table}
 use Rattle.table.specs.Numbers
 use Rattle.table.specs.Values.{refuse, orElse, callbackAt, kindOf}
-use Rattle.table.specs.Links.{named, isHead, namesOf}
-use Rattle.table.specs.Priority.{kindsOf, kindsTo, firstIndex}
+use Rattle.table.specs.Links.{named, isHead}
+use Rattle.table.specs.Parts.{namesOf, kindsOf, kindsTo, firstIndex}
 use Rattle.reader.specs.Rules.{supplyFault, recordsFrom, arrivalsFault, linksFault, faultWith}
 use Rattle.table.proofs.NamedLaws.{heads-law}
 use Rattle.table.proofs.PriorityLaws.{first-gather, first-both}

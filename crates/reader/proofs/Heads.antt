@@ -1,7 +1,7 @@
 -- Chains of a sound table: each callback has exactly one head, from which next leads to it. Assumes nothing.
 -- link-next, next-link, fed-by, unfed: who feeds whom. head-unfed, unfed-head: a head is fed by nobody.
 -- head-lt, head-leads: the head is one of the callbacks, and next leads from it. Of a sound table:
--- rank-up, walk-over: along next a rank rises, and every walk ends. fed-once, feeder-is: each is fed once at most.
+-- rank-up: along next a rank rises. fed-once, feeder-is: each is fed once at most.
 -- top, down, head-self, head-is-head, head-only: a head's head is itself, a follower's is its feeder's, it is a head, and there is no other.
 use mathlib.Core.Path.{_≡_, refl, sym, ap, _∙_, subst}
 use mathlib.Core.Bool.{Bool, true, false}
@@ -14,11 +14,12 @@ use Rattle.curves.specs.Walk.{walk}
 use Rattle.curves.proofs.SumLaws.{sum-part, sum-none}
 use Rattle.curves.proofs.LeastLaws.{lowest-hit, lowest-none}
 use Rattle.curves.proofs.EveryLaws.{T-holds, fails}
-use Rattle.curves.proofs.WalkLaws.{walk-zero, walk-add, walk-ends, rank, rank-le, ranked}
+use Rattle.curves.proofs.WalkLaws.{walk-zero, walk-add, rank, rank-le, ranked}
 use Rattle.table.specs.declared.Table.{Table}
 use Rattle.table.specs.Values.{nextOf}
 use Rattle.table.specs.Links.{linked, named, isHead, feeder, headFrom, headOf}
-use Rattle.reader.proofs.Sound.{Sound, head-named}
+use Rattle.reader.proofs.Sound.{head-named}
+use Rattle.reader.specs.Parts.{Sound}
 
 module _ (t : Table) where
   -- ---- who feeds whom
@@ -114,10 +115,6 @@ module _ (t : Table) where
     -- along next a rank rises
     pub rank-up : (p i : ℕ) → p < t .count → i < t .count → T (linked t p i) → rank (nextOf t) (t .count) p < rank (nextOf t) (t .count) i
     rank-up p i hp hi k = ranked (nextOf t) (t .count) (so .names) (so .loopless) p i hp hi (link-next p i k)
-
-    -- every walk along next ends within n steps
-    pub walk-over : (x : ℕ) → x ≤ t .count → walk (nextOf t) (t .count) x ≡ 0
-    walk-over = walk-ends (nextOf t) (t .count) (so .names) (so .loopless)
 
     pub fed-once : (p q i : ℕ) → p < t .count → q < t .count → T (linked t p i) → T (linked t q i) → p ≡ q
     fed-once p q i hp hq k l = so .once p q i hp hq (link-next p i k) (link-next q i l)

@@ -11,7 +11,8 @@ use native.Mathlib.Omega.{arith}
 use lib.Dec.{eqb, leb, eqb→eq}
 use lib.Pow.{pow-pos}
 use borrow.Author.Tests.{leb-true}
-use Rattle.masks.specs.Mask.{has, withBit, except, gather}
+use Rattle.masks.specs.Mask.{has, withBit, gather}
+use Rattle.masks.specs.Parts.{except}
 use Rattle.masks.proofs.Slots.{has-with, has-with-same, has-with-other, has-except, has-zero, mask-ext, except-lt}
 use Rattle.masks.proofs.Gather.{gather-lt, gather-in}
 use Rattle.curves.specs.Least.{least, lowest}
@@ -22,9 +23,9 @@ use Rattle.curves.proofs.WalkLaws.{Twice, pigeon, walk-zero, walk-add, walk-le}
 use Rattle.table.specs.declared.Names.{Names}
 use Rattle.table.specs.declared.Table.{Table}
 use Rattle.table.specs.Values.{nextOf}
-use Rattle.table.specs.Links.{named, isHead, feeder, onLoop, namesOf}
-use Rattle.reader.specs.Reached.{namesKnown, marks, reachedTo}
-use Rattle.table.specs.Priority.{firstIndex}
+use Rattle.table.specs.Links.{named, isHead, feeder, onLoop}
+use Rattle.table.specs.Parts.{namesOf, firstIndex}
+use Rattle.reader.specs.Parts.{namesKnown, marks, reachedTo}
 use Rattle.table.proofs.NamedLaws.{below-has}
 use Rattle.table.proofs.PriorityLaws.{first-gather}
 use Rattle.reader.proofs.FaultLaws.{heads-are}

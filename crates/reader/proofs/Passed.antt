@@ -21,7 +21,7 @@ use Rattle.table.specs.declared.Table.{Table}
 use Rattle.table.specs.Numbers
 use Rattle.table.specs.Values.{refuse, accepted, orElse, callbackAt, kindOf, nextOf}
 use Rattle.table.specs.Links.{named, isHead, onLoop}
-use Rattle.reader.specs.Reached.{namesKnown}
+use Rattle.reader.specs.Parts.{namesKnown}
 use Rattle.reader.specs.Rules.{within, supplyFault, costFault, unusedFault, recordFault, recordsFrom, arrivalsFault, linksFault, faultWith, faultOf}
 use Rattle.reader.proofs.RulesLaws.{first-passed, both-passed, lowest-passed, lowest-zero}
 use Rattle.reader.proofs.FaultLaws.{fault-edition, fault-none, fault-many, fault-off, fault-spare, fault-supply, fault-horizon, fault-rest}
@@ -206,7 +206,3 @@ module _ (off spare : Bool) (spares : ℕ) (t : Table) (ok : (faultWith off spar
       clean = records-all 0 t (t .count) 0 (λ j l m.
           ap (recordFault (t .count) (callbackAt t j)) (has-zero j ∙ sym (passed-record j (omega arith) .clear))
           ∙ records-passed spares t (t .count) 0 passed-records j l m)
-
--- number 0 says all
-pub accepted-is : (t : Table) → (faultOf t) .number ≡ 0 → faultOf t ≡ accepted
-accepted-is t ok = passed-whole false false 0 t ok

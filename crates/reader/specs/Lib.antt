@@ -1,7 +1,7 @@
 -- The reader of document 01, 'The callback table' and 'Where each refusal is tested'.
 -- Rules: refusals 2 to 14 over values, in their order. Format: the bytes, and the reader. Written: the bytes of values.
--- Reached: what the functions inside that look for loops ask and give.
+-- Parts: what inner functions ask and give.
 pub mod Rules
 pub mod Format
 pub mod Written
-pub mod Reached
+pub mod Parts

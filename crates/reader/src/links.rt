@@ -20,7 +20,7 @@ ghost use Rattle.masks.specs.Mask.{has};
 ghost use Rattle.curves.specs.Least.{lowest, lowestFrom};
 ghost use Rattle.table.specs.Numbers.{places};
 ghost use Rattle.table.specs.Values.{callbackAt, nextOf};
-ghost use Rattle.reader.specs.Reached.{namesKnown, marks, reachedTo};
+ghost use Rattle.reader.specs.Parts.{namesKnown, marks, reachedTo};
 ghost use Rattle.reader.specs.Rules.{arrivalsFault, linksFault};
 
 // The mask with the slots that the walk along next from index x meets, in count steps at most.

@@ -125,7 +125,7 @@ fn records_fault(t: Table, spares: u16) -> Refusal
 }
 
 // What is wrong with a table, with what its bytes show.
-pub fn fault_with(t: Table, off: bool, spare: bool, spares: u16) -> Refusal
+pub(crate) fn fault_with(t: Table, off: bool, spare: bool, spares: u16) -> Refusal
     ensures { λ r. ⌜ r ≡ faultWith off spare spares t ⌝ }
 {
     if t.edition != EDITION_ONE {

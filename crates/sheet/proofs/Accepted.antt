@@ -1,7 +1,7 @@
 -- What an accepted analysis says of the table, its window and the row. Assumes nothing.
 -- Of a table with sheetFault number 0: some-window, few-arrivals. Of bytes and a row with analysisFault number 0:
--- long-row, analysed-read, analysed-sheet: neither the row, nor the reader, nor the table's sheet is refused. analysed-at: the row holds the bounds.
-use mathlib.Core.Path.{_≡_, refl, ap, _∙_}
+-- analysed-read, analysed-sheet: neither the reader nor the table's sheet refuses. analysed-at: the row holds the bounds.
+use mathlib.Core.Path.{_≡_, ap, _∙_}
 use mathlib.Core.Logic.{_⊎_, inl, inr, _≢_}
 use mathlib.Core.Bool.{Bool, true, false}
 use mathlib.Core.List.{List}
@@ -9,7 +9,7 @@ use Prim.Native.Nat.{ℕ, zero, suc, _≤_, _<_}
 use native.Mathlib.Omega.{arith}
 use lib.Dec.{ltb}
 use lib.ListN.{length, getD}
-use borrow.Author.Tests.{eq-eqb, lt-ltb, ltb-false}
+use borrow.Author.Tests.{eq-eqb, lt-ltb}
 use Rattle.lent.specs.Over.{over}
 use Rattle.curves.proofs.SumLaws.{le-or-lt}
 use Rattle.curves.proofs.LeastLaws.{lowest-none}
@@ -22,7 +22,6 @@ use Rattle.table.specs.Links.{isHead}
 use Rattle.reader.specs.Rules.{lowestRefused}
 use Rattle.reader.specs.Format.{tableAt, readFault}
 use Rattle.reader.proofs.RulesLaws.{both-passed, lowest-zero}
-use Rattle.reader.proofs.Accepted.{read-sound}
 use Rattle.sheet.specs.Sheet.{noWindow, tooMany, shortRow, mostWaiting, arrivalsOf, windowOf, boundOf, tooManyAt, sheetFault, analysisFault, boundsTo, rowOf}
 use Rattle.sheet.proofs.PartLaws.{crowded}
 use Rattle.sheet.proofs.RowLaws.{row-at}
@@ -55,27 +54,24 @@ module _ (t : Table) (ok : (sheetFault t) .number ≡ 0) where
 -- ---- bytes and a row
 
 module _ (b : List ℕ) (k : ℕ) (ok : (analysisFault b k) .number ≡ 0) where
-  none : (places ≤ k) × ((orElse (readFault b) (sheetFault (tableAt b))) .number ≡ 0)
+  none : (orElse (readFault b) (sheetFault (tableAt b))) .number ≡ 0
   unfolding analysisFault
-  none = go (ltb k places) refl ok
+  none = go (ltb k places) ok
     where
-      go : (c : Bool) → ltb k places ≡ c → (elim c as (λ _. Refusal) [ true ↦ refuse shortRow 0 | false ↦ orElse (readFault b) (sheetFault (tableAt b)) ]) .number ≡ 0
-          → (places ≤ k) × ((orElse (readFault b) (sheetFault (tableAt b))) .number ≡ 0)
-      go true e h = absurd (omega arith)
-      go false e h = (ltb-false k places e, h)
-
-  pub long-row : places ≤ k
-  long-row = none .0
+      go : (c : Bool) → (elim c as (λ _. Refusal) [ true ↦ refuse shortRow 0 | false ↦ orElse (readFault b) (sheetFault (tableAt b)) ]) .number ≡ 0
+          → (orElse (readFault b) (sheetFault (tableAt b))) .number ≡ 0
+      go true h = absurd (omega arith)
+      go false h = h
 
   pub analysed-read : (readFault b) .number ≡ 0
-  analysed-read = both-passed (readFault b) (sheetFault (tableAt b)) (none .1) .0
+  analysed-read = both-passed (readFault b) (sheetFault (tableAt b)) none .0
 
   pub analysed-sheet : (sheetFault (tableAt b)) .number ≡ 0
-  analysed-sheet = both-passed (readFault b) (sheetFault (tableAt b)) (none .1) .1
+  analysed-sheet = both-passed (readFault b) (sheetFault (tableAt b)) none .1
 
 -- "The reported bound of i is the number that the analyser wrote .. into place i of the row"
 pub analysed-at : (b row : List ℕ) → (analysisFault b (length row)) .number ≡ 0 → (i : ℕ) → i < (tableAt b) .count → getD (rowOf b row) i 0 ≡ boundOf (tableAt b) i
 unfolding rowOf
 analysed-at b row ok i l =
     ap (λ (c : Bool). getD (elim c [ true ↦ over row 0 (boundsTo (tableAt b) ((tableAt b) .count)) | false ↦ row ]) i 0) (eq-eqb ((analysisFault b (length row)) .number) 0 ok)
-    ∙ row-at (tableAt b) row ((tableAt b) .count) i (omega (arith, long-row b (length row) ok, read-sound b (analysed-read b (length row) ok) .few)) l
+    ∙ row-at (tableAt b) row ((tableAt b) .count) i l

@@ -3,13 +3,12 @@ use mathlib.Core.Path.{_≡_, refl, sym, ap, _∙_}
 use mathlib.Core.Logic.{_⊎_, inl, inr}
 use mathlib.Core.List.{List, [], _∷_, _++_}
 use Prim.Native.Nat.{ℕ, zero, suc, _+_, _≤_, _<_}
-use native.Mathlib.Nat.{zero-add, eq-or-lt-of-le, le-of-suc-le-suc}
+use native.Mathlib.Nat.{eq-or-lt-of-le, le-of-suc-le-suc}
 use native.Mathlib.Numerals.{add-one}
 use native.Mathlib.Omega.{arith}
 use lib.ListN.{length, getD, set, length-append, List·getD-append}
 use lib.Seq.{getD-at}
 use Rattle.lent.specs.Over.{over}
-use Rattle.lent.proofs.Inside.{over-inside}
 use Rattle.lent.proofs.Replace.{over-nil, over-more, over-length}
 use Rattle.table.specs.declared.Table.{Table}
 use Rattle.sheet.specs.Sheet.{boundOf, boundsTo}
@@ -44,8 +43,6 @@ module _ (t : Table) (row : List ℕ) where
   row-length i h = over-length row 0 (boundsTo t i) (omega (arith, bounds-length t i))
 
   -- place i holds the bound of slot i
-  pub row-at : (k i : ℕ) → k ≤ length row → i < k → getD (over row 0 (boundsTo t k)) i 0 ≡ boundOf t i
-  row-at k i h l =
-      ap (λ (j : ℕ). getD (over row 0 (boundsTo t k)) j 0) (sym (zero-add i))
-      ∙ over-inside row 0 (boundsTo t k) (omega (arith, bounds-length t k)) i (omega (arith, bounds-length t k))
-      ∙ bounds-at t k i l
+  pub row-at : (k i : ℕ) → i < k → getD (over row 0 (boundsTo t k)) i 0 ≡ boundOf t i
+  unfolding over
+  row-at k i l = List·getD-append (boundsTo t k) _ 0 i (omega (arith, bounds-length t k)) ∙ bounds-at t k i l

@@ -10,7 +10,8 @@ use native.Mathlib.Numerals.{add-one}
 use native.Mathlib.Omega.{arith}
 use borrow.Author.Tests.{le-leb, lt-leb}
 use Rattle.curves.specs.Least.{least, largest}
-use Rattle.curves.specs.Demand.{demand, limit, Rising}
+use Rattle.curves.specs.Demand.{demand, limit}
+use Rattle.curves.specs.Parts.{Rising}
 use Rattle.curves.proofs.LeastLaws.{rest, rest-start, rest-hit, rest-miss, rest-end}
 use Rattle.table.specs.declared.Table.{Table}
 use Rattle.table.specs.Values.{horizonOf}

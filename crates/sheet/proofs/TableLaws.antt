@@ -12,7 +12,7 @@ use lib.Dec.{eqb}
 use lib.ListN.{length, getD, set}
 use lib.Seq.{getD-set-same, getD-set-other}
 use borrow.Author.Tests.{eq-eqb, ne-eqb}
-use Rattle.curves.specs.Demand.{Rising}
+use Rattle.curves.specs.Parts.{Rising}
 use Rattle.curves.proofs.EveryLaws.{never-both}
 use Rattle.curves.proofs.ArrivalsLaws.{arrivals-mono}
 use Rattle.curves.proofs.CostLaws.{cost-up}
@@ -21,7 +21,7 @@ use Rattle.table.specs.declared.Table.{Table}
 use Rattle.table.specs.Numbers.{longest}
 use Rattle.table.specs.Values.{callbackAt, entriesOf, horizonOf}
 use Rattle.table.specs.Links.{isHead, headOf}
-use Rattle.reader.proofs.Sound.{Sound}
+use Rattle.reader.specs.Parts.{Sound}
 use Rattle.reader.proofs.Heads.{head-lt, head-self, head-is-head}
 use Rattle.sheet.specs.Sheet.{arrivalsOf, costOf}
 use Rattle.sheet.specs.Parts.{Spaced, Costed}

@@ -9,7 +9,8 @@ use native.Mathlib.Nat.{le-refl}
 use native.Mathlib.Decide.{ℕ-discrete}
 use native.Mathlib.Omega.{arith}
 use lib.Dec.{T, T-not, leb, leb→le, le→leb}
-use Rattle.curves.specs.Demand.{demand, limit, Rising}
+use Rattle.curves.specs.Demand.{demand, limit}
+use Rattle.curves.specs.Parts.{Rising}
 use Rattle.curves.proofs.SumLaws.{le-or-lt}
 use Rattle.curves.proofs.LeastLaws.{First, least-found, least-by, largest-le, largest-upper}
 use Rattle.curves.proofs.DemandLaws.{limit-own, limit-other, arrivals-upto, demand-le}

@@ -9,14 +9,14 @@ use Rattle.lent.specs.Over.{over}
 use Rattle.curves.specs.Arrivals.{arrivals}
 use Rattle.curves.specs.Cost.{cost}
 use Rattle.curves.specs.Sum.{sum}
-use Rattle.curves.proofs.CostLaws.{RisingEntries}
+use Rattle.curves.specs.Parts.{RisingEntries}
 use Rattle.table.specs.declared.Callback.{Callback}
 use Rattle.table.specs.declared.Refusal.{Refusal}
 use Rattle.table.specs.declared.Table.{Table}
 use Rattle.table.specs.Numbers.{entryPlaces, longest}
 use Rattle.table.specs.Values.{entriesOf, horizonOf}
 use Rattle.table.specs.Links.{headOf}
-use Rattle.reader.proofs.Sound.{Sound}
+use Rattle.reader.specs.Parts.{Sound}
 use Rattle.sheet.specs.declared.Sheet.{Sheet}
 use Rattle.sheet.specs.Window.{covered, finish}
 use Rattle.sheet.specs.Sheet.{mostWaiting, arrivalsOf, costOf, supplyOf, windowOf, sheetFault, boundsTo}

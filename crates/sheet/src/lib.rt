@@ -10,7 +10,7 @@ ghost use lib.ListN.{length};
 ghost use Rattle.lent.specs.Over.{over};
 ghost use Rattle.table.specs.Numbers.{places, longest};
 ghost use Rattle.table.specs.Values.{refuse, horizonOf};
-ghost use Rattle.reader.proofs.Sound.{Sound};
+ghost use Rattle.reader.specs.Parts.{Sound};
 ghost use Rattle.sheet.specs.Sheet.{windowOf, boundOf, boundsTo, tooManyAt, sheetOf, rowOf};
 ghost use Rattle.sheet.specs.Parts.{mostWork, headArrivals, workOf, demandBut, crowdedBy, Spaced, Costed, Ready, refusedSheet, tableSheet, tableRow};
 

@@ -11,7 +11,8 @@ use native.Mathlib.Omega.{arith}
 use lib.Dec.{eqb, leb}
 use lib.Pow.{pow-pos, pow-mono, pow-lt}
 use borrow.Author.Tests.{eq-eqb, ne-eqb, lt-ltb, le-ltb, le-leb, leb-true, leb-false}
-use Rattle.masks.specs.Mask.{has, withBit, gather, except}
+use Rattle.masks.specs.Mask.{has, withBit, gather}
+use Rattle.masks.specs.Parts.{except}
 use Rattle.masks.proofs.Slots.{has-with-same, has-with-other, has-except, with-lt, mask-ext, has-above}
 use Rattle.masks.proofs.Gather.{gather-lt, gather-in, gather-same}
 use Rattle.curves.specs.Sum.{sum, given}
@@ -19,7 +20,8 @@ use Rattle.curves.proofs.SumLaws.{le-or-lt}
 use Rattle.table.specs.declared.Names.{Names}
 use Rattle.table.specs.declared.Table.{Table}
 use Rattle.table.specs.Values.{nextOf}
-use Rattle.table.specs.Links.{linked, named, isHead, namesOf, nameOne}
+use Rattle.table.specs.Links.{linked, named, isHead}
+use Rattle.table.specs.Parts.{namesOf, nameOne}
 
 -- ---- one record
 
@@ -54,10 +56,6 @@ module _ (t : Table) (k i : ℕ) where
   by-miss h = omega (arith, ap (λ (b : Bool). given b 1) (ne-eqb (nextOf t k) (suc i) h))
 
 module _ (t : Table) (n : ℕ) where
-  none-named : (i : ℕ) → namedBy t 0 i ≡ 0
-  unfolding namedBy sum
-  none-named i = refl
-
   gather-none : (p : ℕ → Bool) (m : ℕ) → ((i : ℕ) → p i ≡ false) → gather p m ≡ 0
   unfolding gather
   gather-none p zero h = refl

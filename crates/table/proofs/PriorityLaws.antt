@@ -1,27 +1,31 @@
 -- The first of a mask is the lowest slot that passes its test, and the first in priority is found in the kinds' masks. Assumes nothing.
 -- kinds-more: one record sorted in. next-some, next-none: an index or what follows. first-lowest, first-gather, first-both: lowest by trailing zeros.
--- foremost-law: the first in priority from the kinds' masks.
+-- foremost-law: the first in priority from the kinds' masks. foremost-hit, foremost-first: it passes, and precedes whoever else does.
 use mathlib.Core.Path.{_≡_, refl, sym, ap, ap₂, _∙_}
-use mathlib.Core.Logic.{_≢_}
-use mathlib.Core.Bool.{Bool, true, false, _&&_, and-assoc}
+use mathlib.Core.Logic.{_⊎_, inl, inr, _≢_}
+use mathlib.Core.Bool.{Bool, true, false, _&&_, _||_, and-assoc, or-true}
 use Prim.Native.Nat.{ℕ, zero, suc, _+_, _≤_, _<_}
 use native.Mathlib.Nat.{lt-of-le-of-lt}
+use native.Mathlib.Decide.{ℕ-discrete}
 use native.Mathlib.Numerals.{add-one}
 use native.Mathlib.Omega.{arith}
-use lib.Dec.{T, eqb, ltb}
+use lib.Dec.{T, T-not, eqb, ltb, eqb→eq}
 use lib.Bits.{and-le-l}
 use borrow.Author.Tests.{eq-eqb, ne-eqb, lt-ltb, ltb-true}
-use Rattle.masks.specs.Mask.{has, both, firstOf, gather}
+use Rattle.masks.specs.Mask.{has, gather}
+use Rattle.masks.specs.Parts.{both, firstOf}
 use Rattle.masks.proofs.Slots.{has-and, has-zero, mask-none}
 use Rattle.masks.proofs.Lowest.{first-is}
 use Rattle.masks.proofs.Gather.{gather-has, gather-mask}
 use Rattle.curves.specs.Least.{lowest}
 use Rattle.curves.proofs.LeastLaws.{lowest-hit, lowest-first, lowest-none}
-use Rattle.curves.proofs.EveryLaws.{holds, fails, never-both}
+use Rattle.curves.proofs.SumLaws.{le-or-lt}
+use Rattle.curves.proofs.EveryLaws.{holds, fails, T-holds, never-both, and-both}
 use Rattle.table.specs.declared.Table.{Table}
 use Rattle.table.specs.Numbers.{timer, subscription, service, client}
 use Rattle.table.specs.Values.{kindOf}
-use Rattle.table.specs.Priority.{kindsTo, kindsOf, sortOne, firstIndex, orNext, foremostIn, foremostFrom, foremost}
+use Rattle.table.specs.Priority.{precedes, foremostFrom, foremost}
+use Rattle.table.specs.Parts.{kindsTo, kindsOf, sortOne, firstIndex, orNext, foremostIn}
 
 pub kinds-more : (t : Table) (i : ℕ) → sortOne (kindsTo t i) (kindOf t i) i ≡ kindsTo t (i + 1)
 unfolding kindsTo sortOne gather
@@ -96,3 +100,78 @@ foremost-law t m le =
   where
     of : (kind : ℕ) → firstIndex (both (gather (λ i. eqb (kindOf t i) kind) (t .count)) m) ≡ lowest (λ i. eqb (kindOf t i) kind && has m i) (t .count)
     of kind = first-both (λ i. eqb (kindOf t i) kind) (t .count) le m
+
+-- by what a search of one kind finds: nothing, so that the next kind is searched, or slot k
+by-kind : (t : Table) (p : ℕ → Bool) (P : ℕ → Type 0) (f kind : ℕ)
+    → (lowest (λ i. eqb (kindOf t i) kind && p i) (t .count) ≡ 0 → P (foremostFrom t p f (suc kind)))
+    → ((k : ℕ) → lowest (λ i. eqb (kindOf t i) kind && p i) (t .count) ≡ suc k → P (suc k))
+    → P (foremostFrom t p (suc f) kind)
+unfolding foremostFrom
+by-kind t p P f kind none some = go (lowest (λ i. eqb (kindOf t i) kind && p i) (t .count)) refl
+  where
+    go : (x : ℕ) → lowest (λ i. eqb (kindOf t i) kind && p i) (t .count) ≡ x
+        → P (elim x as (λ _. ℕ) [ zero ↦ foremostFrom t p f (suc kind) | suc i ↦ suc i ])
+    go zero e = none e
+    go (suc k) e = some k e
+
+module _ (t : Table) (p : ℕ → Bool) (i : ℕ) where
+  -- whoever is found passes
+  hit-from : (f kind : ℕ) → foremostFrom t p f kind ≡ suc i → (i < t .count) × T (p i)
+  unfolding foremostFrom
+  hit-from zero kind = λ e. absurd (omega arith)
+  hit-from (suc f) kind =
+      by-kind t p (λ x. x ≡ suc i → (i < t .count) × T (p i)) f kind
+      (λ z e. hit-from f (suc kind) e)
+      (λ k z e.
+      let a = lowest-hit (λ j. eqb (kindOf t j) kind && p j) (t .count) i (z ∙ e) in
+      (a .0, and-both (eqb (kindOf t i) kind) (p i) (a .1) .1))
+
+  pub foremost-hit : foremost t p ≡ suc i → (i < t .count) × T (p i)
+  foremost-hit e = hit-from client timer e
+
+  -- "Priority goes by kind number, then by index; the smaller goes first": whoever is found precedes each other that passes
+  module _ (j : ℕ) (l : j < t .count) (pass : T (p j)) (other : j ≢ i) where
+    -- of the kinds from `kind` on
+    first-from : (f kind : ℕ) → kind ≤ kindOf t j → kindOf t j < kind + f → foremostFrom t p f kind ≡ suc i → precedes t i j ≡ true
+    unfolding foremostFrom precedes
+    first-from zero kind a b = λ e. absurd (omega arith)
+    first-from (suc f) kind a b =
+        by-kind t p (λ x. x ≡ suc i → precedes t i j ≡ true) f kind
+        (λ z e. first-from f (suc kind) (later z) (omega arith) e)
+        (λ k z e. found (z ∙ e) (ℕ-discrete (kindOf t j) kind))
+      where
+        test : ℕ → Bool
+        test x = eqb (kindOf t x) kind && p x
+
+        passes : kindOf t j ≡ kind → T (test j)
+        passes q = T-holds (test j) (ap₂ _&&_ (eq-eqb (kindOf t j) kind q) (holds (p j) pass))
+
+        later : lowest test (t .count) ≡ 0 → suc kind ≤ kindOf t j
+        later z = go (ℕ-discrete (kindOf t j) kind)
+          where
+            go : Dec (kindOf t j ≡ kind) → suc kind ≤ kindOf t j
+            go (yes q) = absurd (T-not (test j) (lowest-none test (t .count) z j l) (passes q))
+            go (no q) = omega arith
+
+        found : lowest test (t .count) ≡ suc i → Dec (kindOf t j ≡ kind) → precedes t i j ≡ true
+        found e (yes q) =
+            ap₂ (λ (x y : Bool). ltb (kindOf t i) (kindOf t j) || (x && y)) (eq-eqb (kindOf t i) (kindOf t j) (own ∙ sym q)) (lt-ltb i j before)
+            ∙ or-true (ltb (kindOf t i) (kindOf t j))
+          where
+            own : kindOf t i ≡ kind
+            own = eqb→eq (kindOf t i) kind (and-both (eqb (kindOf t i) kind) (p i) (lowest-hit test (t .count) i e .1) .0)
+
+            before : i < j
+            before = go (le-or-lt j i)
+              where
+                go : (j ≤ i) ⊎ (i < j) → i < j
+                go (inl h) = absurd (T-not (test j) (lowest-first test (t .count) i j e (omega arith)) (passes q))
+                go (inr h) = h
+        found e (no q) =
+            ap (λ (x : Bool). x || (eqb (kindOf t i) (kindOf t j) && ltb i j)) (lt-ltb (kindOf t i) (kindOf t j) (omega (arith, own)))
+          where
+            own : kindOf t i ≡ kind
+            own = eqb→eq (kindOf t i) kind (and-both (eqb (kindOf t i) kind) (p i) (lowest-hit test (t .count) i e .1) .0)
+
+    pub foremost-first : timer ≤ kindOf t j → kindOf t j ≤ client → foremost t p ≡ suc i → precedes t i j ≡ true
+    foremost-first a b e = first-from client timer a (omega arith) e

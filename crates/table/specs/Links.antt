@@ -1,12 +1,10 @@
 -- What the links of a table mean: who names whom, heads, the head of a chain, loops.
-use mathlib.Core.Bool.{Bool, true, false, not}
+use mathlib.Core.Bool.{Bool, not}
 use Prim.Native.Nat.{ℕ, zero, suc}
-use lib.Dec.{eqb, ltb, leb}
-use Rattle.masks.specs.Mask.{has, withBit, gather}
+use lib.Dec.{eqb}
 use Rattle.curves.specs.Sum.{sum, given}
 use Rattle.curves.specs.Least.{least, lowest, lowestFrom}
 use Rattle.curves.specs.Walk.{walk}
-use Rattle.table.specs.declared.Names.{Names}
 use Rattle.table.specs.declared.Table.{Table}
 use Rattle.table.specs.Values.{nextOf}
 
@@ -39,16 +37,3 @@ headOf t i = headFrom t (t .count) i
 -- on a loop: some number of steps from 1 to n along next leads back
 unfoldable pub onLoop : Table → ℕ → Bool
 onLoop t i = not (eqb (least (λ k. eqb (walk (nextOf t) k (suc i)) (suc i)) (t .count) 1) 0)
-
--- the slots that records name: at least once, at least twice
-unfoldable pub namesOf : Table → Names
-namesOf t = record { once = gather (λ i. leb 1 (named t i)) (t .count); twice = gather (λ i. leb 2 (named t i)) (t .count) }
-
--- the names of the records so far, with one more that names index x of n
-unfoldable pub nameOne : ℕ → Names → ℕ → Names
-nameOne n s zero = s
-nameOne n s (suc i) =
-    elim (ltb i n) [
-      | false ↦ s
-      | true ↦ record { once = withBit (s .once) i; twice = elim (has (s .once) i) [ true ↦ withBit (s .twice) i | false ↦ s .twice ] }
-    ]

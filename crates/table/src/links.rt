@@ -4,9 +4,11 @@ use super::Names;
 use super::Table;
 ghost use mathlib.Core.Path.{_≡_};
 ghost use Prim.Native.Nat.{ℕ, _≤_, _<_, _-_, _^_};
-ghost use Rattle.masks.specs.Mask.{gather, except};
+ghost use Rattle.masks.specs.Mask.{gather};
+ghost use Rattle.masks.specs.Parts.{except};
 ghost use Rattle.table.specs.Numbers.{places};
-ghost use Rattle.table.specs.Links.{namesOf, nameOne, isHead};
+ghost use Rattle.table.specs.Links.{isHead};
+ghost use Rattle.table.specs.Parts.{namesOf, nameOne};
 
 // The names with one more record counted, whose next is given; next counts where it is 1 to n.
 fn name_one(names: Names, n: u8, next: u8) -> Names

@@ -9,7 +9,7 @@ use super::numbers::TIMER;
 ghost use mathlib.Core.Path.{_≡_};
 ghost use Prim.Native.Nat.{ℕ, _≤_, _<_};
 ghost use Rattle.table.specs.Numbers.{places};
-ghost use Rattle.table.specs.Priority.{kindsOf, sortOne, firstIndex, foremostIn};
+ghost use Rattle.table.specs.Parts.{kindsOf, sortOne, firstIndex, foremostIn};
 
 // The kinds with one more slot sorted in.
 fn sort_one(kinds: Kinds, kind: u8, slot: u16) -> Kinds

@@ -25,7 +25,7 @@ use Rattle.sheet.specs.Window.{covered, coveredFor, window, finish, bound}
 use Rattle.sheet.specs.Sheet.{arrivalsOf, costOf, supplyOf, windowOf, boundOf, tooManyAt, sheetFault, analysisFault, sheetOf, boundsTo, rowOf}
 use Rattle.executor.specs.State.{fresh, faulty}
 use Rattle.queues.specs.Choosing.{isPolled, gatheredOf, choose}
-use Rattle.faults.specs.Faults.{isBlank, tableFault, beyondWrong, cacheWrong, countWrong, runWrong, slotWrong}
+use Rattle.faults.specs.Faults.{tableFault, beyondWrong, cacheWrong, countWrong, runWrong, slotWrong}
 use Rattle.queues.specs.Queues.{arrivedTo, arrived, activated, fullWith}
 use Rattle.executor.specs.Effect.{finishes, continues, worked, begun, served, effect}
 use Rattle.executor.specs.Tick.{foreign, nextAfter, full, tickFault, refused, tickOf}
@@ -54,7 +54,7 @@ each {c} t (List·Memᴰ·head {x = x} {xs = cs} e) =
 each {c} t (List·Memᴰ·tail {x = x} {xs = cs} i) = each (both (same (x .reckoned) (x .paper)) (agree cs) t .1) i
 
 passes : T (agree table)
-unfolding table agree same supply arrivals ceiling cost sum least lowestFrom largest every some walk limit has withBit withoutBit countOf gather words headerBytes recordBytes recordsBytes written zeros recordAt spareAt recordsTo tableAt sparesAt readFault readOf supplyFault costFault unusedFault recordFault recordsFrom arrivalsFault linksFault faultWith linked named isHead feeder headFrom headOf onLoop foremostFrom horizonOf over covered coveredFor window finish bound arrivalsOf costOf supplyOf windowOf boundOf tooManyAt sheetFault analysisFault sheetOf boundsTo rowOf fresh isPolled isBlank tableFault beyondWrong countWrong cacheWrong slotWrong runWrong faulty arrivedTo arrived activated gatheredOf choose finishes continues worked begun served effect foreign nextAfter fullWith full tickFault refused tickOf startOf saysOver
+unfolding table agree same supply arrivals ceiling cost sum least lowestFrom largest every some walk limit has withBit withoutBit countOf gather words headerBytes recordBytes recordsBytes written zeros recordAt spareAt recordsTo tableAt sparesAt readFault readOf supplyFault costFault unusedFault recordFault recordsFrom arrivalsFault linksFault faultWith linked named isHead feeder headFrom headOf onLoop foremostFrom horizonOf over covered coveredFor window finish bound arrivalsOf costOf supplyOf windowOf boundOf tooManyAt sheetFault analysisFault sheetOf boundsTo rowOf fresh isPolled tableFault beyondWrong countWrong cacheWrong slotWrong runWrong faulty arrivedTo arrived activated gatheredOf choose finishes continues worked begun served effect foreign nextAfter fullWith full tickFault refused tickOf startOf saysOver
 passes = tt
 
 pub reckoned : Reckoned

@@ -7,7 +7,7 @@ use Rattle.reader.specs.declared.Reading.{Reading}
 use Rattle.table.specs.declared.Refusal.{Refusal}
 use Rattle.table.specs.declared.Table.{Table}
 use Rattle.reader.specs.Format.{tableAt, readFault}
-use Rattle.reader.proofs.Sound.{Sound}
+use Rattle.reader.specs.Parts.{Sound}
 use Rattle.reader.proofs.Accepted.{reading-is, read-table, read-sound}
 use Rattle.sheet.specs.Parts.{refusedSheet, tableSheet, tableRow}
 use Rattle.sheet.proofs.RefusalLaws.{short-row, misread, well-read}

@@ -1,6 +1,6 @@
 -- The effect tells whom it activates; the queues are those before it.
 use mathlib.Core.Path.{_∙_}
-use Rattle.executor.proofs.FullLaws.{finished-few, activated-few, full-is}
+use Rattle.executor.proofs.FullLaws.{finished-few, full-is}
 use Rattle.executor.proofs.TickLaws.{admitted-full, admitted-free}
 use borrow.Author.Needs.{needs}
 use Rattle.executor.proofs.Machine.advance.Statement.{statement}
@@ -16,7 +16,7 @@ next-after-requires : tie.Need-next-after-requires
 next-after-requires c κs = finished-few (c .before .before .before .args .self) _ _ _ _ (c .before .before .effect .ensures) _ (c .finished .ensures) (c .before .before .before .pre .0)
 
 full-with-requires : tie.Need-full-with-requires
-full-with-requires c κs = activated-few (c .before .before .before .before .before .args .self) _ _ _ _ (c .before .before .before .before .effect .ensures) _ (c .before .before .finished .ensures) _ (c .before .next-after .ensures) (c .before .before .before .before .before .pre .0)
+full-with-requires c κs = search needs
 
 refuse-requires : tie.Need-refuse-requires
 refuse-requires c κs = search needs

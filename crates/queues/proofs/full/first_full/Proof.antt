@@ -3,7 +3,7 @@ use mathlib.Core.Path.{_≡_, refl, _∙_}
 use Prim.Native.Nat.{_<_}
 use native.Mathlib.Omega.{arith}
 use borrow.Author.Needs.{needs}
-use Rattle.queues.specs.Queues.{fullIn}
+use Rattle.queues.specs.Parts.{fullIn}
 use Rattle.queues.proofs.SlotLaws.{lowest-set, without-less}
 use Rattle.queues.proofs.QueueLaws.{full-hit, full-miss, full-end}
 use Rattle.queues.proofs.full.first_full.Statement.{statement}

@@ -1,6 +1,6 @@
--- The callback that is activated is one slot more of the mask.
+-- The callback that is activated, if there is one, is one slot more of the mask.
 use mathlib.Core.Path.{_∙_}
-use Rattle.queues.proofs.QueueLaws.{full-alone, full-one}
+use Rattle.queues.proofs.QueueLaws.{full-alone, full-past, full-one}
 use borrow.Author.Needs.{needs}
 use Rattle.queues.proofs.full.full_with.Statement.{statement}
 use Rattle.queues.proofs.full.full_with.Tie as tie
@@ -11,6 +11,12 @@ first-full-requires c κs = search needs
 returns : tie.Need-returns
 returns c = c .first-full .ensures ∙ full-alone _ _ _ (c .before .if1 .taken)
 
+first-full-requires-2 : tie.Need-first-full-requires-2
+first-full-requires-2 c κs = search needs
+
+returns-2 : tie.Need-returns-2
+returns-2 c = c .first-full2 .ensures ∙ full-past _ _ _ (c .before .if2 .taken)
+
 sub-set-slot : tie.Need-sub-set-slot
 sub-set-slot c = search needs
 
@@ -20,11 +26,11 @@ cast-set-slot c = search needs
 set-slot-requires : tie.Need-set-slot-requires
 set-slot-requires c κs = search needs
 
-first-full-requires-2 : tie.Need-first-full-requires-2
-first-full-requires-2 c κs = search needs
+first-full-requires-3 : tie.Need-first-full-requires-3
+first-full-requires-3 c κs = search needs
 
-returns-2 : tie.Need-returns-2
-returns-2 c = c .first-full2 .ensures ∙ full-one _ _ _ _ (c .before .before .if1 .left) (c .before .set-slot .ensures)
+returns-3 : tie.Need-returns-3
+returns-3 c = c .first-full3 .ensures ∙ full-one _ _ _ _ (c .before .before .before .if1 .left) (c .before .set-slot .ensures)
 
 pub full-with-spec : {M : Type 1} → statement M
 full-with-spec =
@@ -32,8 +38,10 @@ full-with-spec =
     (tie.spec
     first-full-requires
     returns
+    first-full-requires-2
+    returns-2
     sub-set-slot
     cast-set-slot
     set-slot-requires
-    first-full-requires-2
-    returns-2)
+    first-full-requires-3
+    returns-3)

@@ -3,7 +3,7 @@ use mathlib.Core.Path.{_≡_, sym, ap, _∙_}
 use Prim.Native.Nat.{ℕ, _+_, _-_, _≤_}
 use native.Mathlib.Omega.{arith}
 use Rattle.table.specs.Values.{nextOf}
-use Rattle.reader.specs.Reached.{marks}
+use Rattle.reader.specs.Parts.{marks}
 use Rattle.reader.proofs.LoopLaws.{marks-start, marks-over, marks-end, marks-more, known}
 use borrow.Author.Needs.{needs}
 use Rattle.reader.proofs.links.marked.Statement.{statement}

@@ -4,7 +4,7 @@ use mathlib.Core.Logic.{⊎-elim}
 use Prim.Native.Nat.{_-_, _≤_}
 use native.Mathlib.Nat.{le-antisymm}
 use native.Mathlib.Omega.{arith}
-use Rattle.reader.specs.Reached.{marks, reachedTo}
+use Rattle.reader.specs.Parts.{marks, reachedTo}
 use Rattle.table.specs.Values.{nextOf}
 use Rattle.reader.proofs.LoopLaws.{reached-start, reached-in, reached-out}
 use borrow.Author.Needs.{needs}

@@ -1,7 +1,7 @@
 -- `table::links::heads` meets its contract: the heads are the slots that nobody names. Assumes nothing.
 use mathlib.Core.Path.{ap, _∙_}
 use Prim.Native.Nat.{_-_, _^_}
-use Rattle.masks.specs.Mask.{except}
+use Rattle.masks.specs.Parts.{except}
 use Rattle.table.specs.declared.Names.{Names}
 use Rattle.table.proofs.NamedLaws.{heads-law}
 use borrow.Author.Needs.{needs}

@@ -3,7 +3,7 @@ use mathlib.Core.Path.{_≡_, sym, ap, _∙_}
 use Prim.Native.Nat.{suc, _-_}
 use native.Mathlib.Omega.{arith}
 use borrow.Author.Needs.{needs}
-use Rattle.table.specs.Links.{nameOne}
+use Rattle.table.specs.Parts.{nameOne}
 use Rattle.table.proofs.NamedLaws.{name-out, name-again, name-first}
 use Rattle.table.proofs.links.name_one.Statement.{statement}
 use Rattle.table.proofs.links.name_one.Tie as tie

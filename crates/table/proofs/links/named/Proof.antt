@@ -6,7 +6,7 @@ use native.Mathlib.Omega.{arith}
 use borrow.Author.Needs.{needs}
 use Rattle.table.specs.declared.Names.{Names}
 use Rattle.table.specs.Values.{nextOf}
-use Rattle.table.specs.Links.{nameOne}
+use Rattle.table.specs.Parts.{nameOne}
 use Rattle.table.proofs.NamedLaws.{namesTo, names-start, names-more, names-end}
 use Rattle.table.proofs.links.named.Statement.{statement}
 use Rattle.table.proofs.links.named.Tie as tie

@@ -1,6 +1,6 @@
 -- `table::priority::foremost` meets its contract: the kinds are asked in their order. Assumes nothing.
 use mathlib.Core.Path.{sym, _∙_}
-use Rattle.table.specs.Priority.{foremostIn}
+use Rattle.table.specs.Parts.{foremostIn}
 use Rattle.table.proofs.PriorityLaws.{next-some, next-none}
 use borrow.Author.Needs.{needs}
 use Rattle.table.proofs.priority.foremost.Statement.{statement}

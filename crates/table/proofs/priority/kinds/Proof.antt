@@ -6,7 +6,7 @@ use native.Mathlib.Omega.{arith}
 use Rattle.masks.specs.Mask.{gather}
 use Rattle.table.specs.declared.Kinds.{Kinds}
 use Rattle.table.specs.Values.{kindOf}
-use Rattle.table.specs.Priority.{kindsTo, sortOne}
+use Rattle.table.specs.Parts.{kindsTo, sortOne}
 use Rattle.table.proofs.PriorityLaws.{kinds-more}
 use borrow.Author.Needs.{needs}
 use Rattle.table.proofs.priority.kinds.Statement.{statement}

@@ -1,6 +1,6 @@
 -- `table::priority::sort_one` meets its contract: the slot goes into the mask of its kind. Assumes nothing.
 use borrow.Author.Tests.{ne-eqb}
-use Rattle.table.specs.Priority.{sortOne}
+use Rattle.table.specs.Parts.{sortOne}
 use borrow.Author.Needs.{needs}
 use Rattle.table.proofs.priority.sort_one.Statement.{statement}
 use Rattle.table.proofs.priority.sort_one.Tie as tie
