@@ -1,13 +1,12 @@
 -- What an accepted analysis says of the table, its window and the row. Assumes nothing.
 -- Of a table with sheetFault number 0: some-window, few-arrivals. Of bytes and a row with analysisFault number 0:
 -- analysed-read, analysed-sheet: neither the reader nor the table's sheet refuses. analysed-at: the row holds the bounds.
-use mathlib.Core.Path.{_≡_, ap, _∙_}
+use mathlib.Core.Path.{_≡_, sym, ap, _∙_}
 use mathlib.Core.Logic.{_⊎_, inl, inr, _≢_}
 use mathlib.Core.Bool.{Bool, true, false}
 use mathlib.Core.List.{List}
 use Prim.Native.Nat.{ℕ, zero, suc, _≤_, _<_}
 use native.Mathlib.Omega.{arith}
-use lib.Dec.{ltb}
 use lib.ListN.{length, getD}
 use borrow.Author.Tests.{eq-eqb, lt-ltb}
 use Rattle.lent.specs.Over.{over}
@@ -25,6 +24,7 @@ use Rattle.reader.proofs.RulesLaws.{both-passed, lowest-zero}
 use Rattle.sheet.specs.Sheet.{noWindow, tooMany, shortRow, mostWaiting, arrivalsOf, windowOf, boundOf, tooManyAt, sheetFault, analysisFault, boundsTo, rowOf}
 use Rattle.sheet.proofs.PartLaws.{crowded}
 use Rattle.sheet.proofs.RowLaws.{row-at}
+use Rattle.sheet.proofs.RefusalLaws.{row-first, reader-first}
 
 -- ---- a table's sheet
 
@@ -55,13 +55,11 @@ module _ (t : Table) (ok : (sheetFault t) .number ≡ 0) where
 
 module _ (b : List ℕ) (k : ℕ) (ok : (analysisFault b k) .number ≡ 0) where
   none : (orElse (readFault b) (sheetFault (tableAt b))) .number ≡ 0
-  unfolding analysisFault
-  none = go (ltb k places) ok
+  none = go (le-or-lt places k)
     where
-      go : (c : Bool) → (elim c as (λ _. Refusal) [ true ↦ refuse shortRow 0 | false ↦ orElse (readFault b) (sheetFault (tableAt b)) ]) .number ≡ 0
-          → (orElse (readFault b) (sheetFault (tableAt b))) .number ≡ 0
-      go true h = absurd (omega arith)
-      go false h = h
+      go : (places ≤ k) ⊎ (k < places) → (orElse (readFault b) (sheetFault (tableAt b))) .number ≡ 0
+      go (inl l) = ap (λ (r : Refusal). r .number) (sym (reader-first b k l)) ∙ ok
+      go (inr l) = absurd (let z : shortRow ≡ 0 = ap (λ (r : Refusal). r .number) (sym (row-first b k l)) ∙ ok in omega arith)
 
   pub analysed-read : (readFault b) .number ≡ 0
   analysed-read = both-passed (readFault b) (sheetFault (tableAt b)) none .0

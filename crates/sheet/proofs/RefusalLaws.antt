@@ -1,5 +1,5 @@
 -- The analyser's refusals in their order: what each test leads to.
--- Of a table: fault-none (15), fault-crowded (16), fault-passed. Of bytes and a row: short-row (17), misread (1 to 14), well-read (what the table gives).
+-- Of a table: fault-none (15), fault-crowded (16), fault-passed. Of bytes and a row: row-first, reader-first (the order), short-row (17), misread (1 to 14), well-read (what the table gives).
 use mathlib.Core.Path.{_≡_, refl, sym, ap, _∙_}
 use mathlib.Core.Logic.{_≢_}
 use mathlib.Core.Bool.{Bool, true, false}
@@ -71,6 +71,16 @@ module _ (t : Table) where
       go zero f = absurd (p f)
       go (suc w) f = fault-of w f ∙ ap (λ (x : ℕ). lowestRefused tooMany x accepted) (ap (tooManyAt t) (sym f) ∙ e)
 
+-- 17 before anything else, then the reader's numbers, then 15 and 16
+module _ (b : List ℕ) (k : ℕ) where
+  pub row-first : k < places → analysisFault b k ≡ refuse shortRow 0
+  unfolding analysisFault
+  row-first l = rw (lt-ltb k places l, analysisFault)
+
+  pub reader-first : places ≤ k → analysisFault b k ≡ orElse (readFault b) (sheetFault (tableAt b))
+  unfolding analysisFault
+  reader-first l = rw (le-ltb k places l, analysisFault)
+
 module _ (b row : List ℕ) where
   -- the row with the bounds of the table that the bytes hold
   abbrev new : List ℕ
@@ -83,23 +93,14 @@ module _ (b row : List ℕ) where
       (ap (sheetBy (windowOf (tableAt b))) e ∙ s .0, ap (rowBy new row) e ∙ s .1)
 
   pub short-row : length row < places → Outcome (sheetOf b (length row)) (rowOf b row) (refusedSheet (refuse shortRow 0)) row
-  unfolding analysisFault
-  short-row l =
-      by-analysis (refuse shortRow 0)
-      (ap (λ (x : Bool). elim x [ true ↦ refuse shortRow 0 | false ↦ orElse (readFault b) (sheetFault (tableAt b)) ]) (lt-ltb (length row) places l))
-      (λ z. omega arith)
-
-  reader-first : places ≤ length row → analysisFault b (length row) ≡ orElse (readFault b) (sheetFault (tableAt b))
-  unfolding analysisFault
-  reader-first l = ap (λ (x : Bool). elim x [ true ↦ refuse shortRow 0 | false ↦ orElse (readFault b) (sheetFault (tableAt b)) ]) (le-ltb (length row) places l)
+  short-row l = by-analysis (refuse shortRow 0) (row-first b (length row) l) (λ z. omega arith)
 
   pub misread : places ≤ length row → (readFault b) .number ≢ 0 → Outcome (sheetOf b (length row)) (rowOf b row) (refusedSheet (readFault b)) row
-  unfolding analysisFault
-  misread l p = by-analysis (readFault b) (reader-first l ∙ ap (λ (x : Bool). elim x [ true ↦ sheetFault (tableAt b) | false ↦ readFault b ]) (ne-eqb ((readFault b) .number) 0 p)) p
+  misread l p = by-analysis (readFault b) (reader-first b (length row) l ∙ ap (λ (x : Bool). elim x [ true ↦ sheetFault (tableAt b) | false ↦ readFault b ]) (ne-eqb ((readFault b) .number) 0 p)) p
 
   pub well-read : places ≤ length row → (readFault b) .number ≡ 0 → Outcome (sheetOf b (length row)) (rowOf b row) (tableSheet (tableAt b)) (tableRow (tableAt b) row)
-  unfolding analysisFault sheetOf rowOf tableSheet tableRow
+  unfolding sheetOf rowOf tableSheet tableRow
   well-read l e = (ap (sheetBy (windowOf (tableAt b))) same, ap (rowBy new row) same)
     where
       same : analysisFault b (length row) ≡ sheetFault (tableAt b)
-      same = reader-first l ∙ ap (λ (x : Bool). elim x [ true ↦ sheetFault (tableAt b) | false ↦ readFault b ]) (eq-eqb ((readFault b) .number) 0 e)
+      same = reader-first b (length row) l ∙ ap (λ (x : Bool). elim x [ true ↦ sheetFault (tableAt b) | false ↦ readFault b ]) (eq-eqb ((readFault b) .number) 0 e)
