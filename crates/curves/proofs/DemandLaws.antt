@@ -1,29 +1,20 @@
 -- Laws of the demand: whose instances are charged (limit-own, limit-other), and more instances bring no less work (demand-le).
 use mathlib.Core.Path.{_≡_, refl}
 use mathlib.Core.Logic.{_≢_}
-use mathlib.Core.Bool.{Bool, true, false}
 use Prim.Native.Nat.{ℕ, suc, _≤_, _<_}
 use native.Mathlib.Nat.{le-refl, le-of-lt}
-use lib.Dec.{T, eqb, eqb→eq, eqb-refl}
+use borrow.Author.Tests.{eq-eqb, ne-eqb}
 use Rattle.curves.specs.Demand.{demand, limit}
 use Rattle.curves.specs.Parts.{Rising}
 use Rattle.curves.proofs.SumLaws.{sum-le, mono-upto}
 
 pub limit-own : (a : ℕ → ℕ → ℕ) (x A D : ℕ) → limit a x A D x ≡ a x (suc A)
 unfolding limit
-limit-own a x A D = go (eqb x x) (eqb-refl x)
-  where
-    go : (b : Bool) → T b → elim b [ true ↦ a x (suc A) | false ↦ a x D ] ≡ a x (suc A)
-    go true t = refl
-    go false t = absurd t
+limit-own a x A D = rw (eq-eqb x x refl, limit)
 
 pub limit-other : (a : ℕ → ℕ → ℕ) (x A D j : ℕ) → j ≢ x → limit a x A D j ≡ a j D
 unfolding limit
-limit-other a x A D j p = go (eqb j x) (λ t. p (eqb→eq j x t))
-  where
-    go : (b : Bool) → ¬ (T b) → elim b [ true ↦ a x (suc A) | false ↦ a j D ] ≡ a j D
-    go true t = absurd (t tt)
-    go false t = refl
+limit-other a x A D j p = rw (ne-eqb j x p, limit)
 
 module _ (n : ℕ) (a e : ℕ → ℕ → ℕ) (up : Rising n a e) where
   -- a longer window holds no fewer arrivals

@@ -1,56 +1,33 @@
 -- What step 3 gives: somebody is chosen wherever somebody waits; the chosen one waits, and is in the cache then if it is polled;
 -- and the cache holds polled callbacks that wait, before and after. Nothing here asks who is polled.
---   foremost-some                 the first in priority that passes
 --   Cached                        what a cache holds
 --   Chosen, chooses               what a choice gives
 use mathlib.Core.Path.{_≡_, refl, subst, sym, _∙_}
-use mathlib.Core.Logic.{_⊎_, inl, inr, _≢_}
+use mathlib.Core.Logic.{_≢_}
 use mathlib.Core.Bool.{Bool, true, false, not, _&&_}
 use mathlib.Core.List.{List}
-use Prim.Native.Nat.{ℕ, zero, suc, _+_, _≤_, _<_}
-use native.Mathlib.Nat.{eq-or-lt-of-le}
+use Prim.Native.Nat.{ℕ, zero, suc, _<_}
 use native.Mathlib.Omega.{arith}
-use lib.Dec.{T, T-not, eqb, ltb, ltb→lt, lt→ltb, eqb-refl}
+use lib.Dec.{T, T-not, ltb, ltb→lt, lt→ltb}
 use lib.ListN.{getD}
 use Rattle.masks.specs.Mask.{has}
 use Rattle.masks.proofs.Gather.{gather-has, gather-in}
-use Rattle.curves.specs.Least.{lowest}
-use Rattle.curves.proofs.LeastLaws.{lowest-some}
 use Rattle.table.specs.declared.Table.{Table}
-use Rattle.table.specs.Numbers.{timer, client}
-use Rattle.table.specs.Values.{kindOf}
-use Rattle.table.specs.Priority.{foremostFrom, foremost}
+use Rattle.table.specs.Priority.{foremost}
 use Rattle.reader.specs.Parts.{Sound}
 use Rattle.queues.specs.declared.Choice.{Choice}
 use Rattle.queues.specs.Choosing.{isPolled, choice, gatheredOf, pollingPoint, choose}
 use Rattle.queues.specs.Queues.{waits}
 use Rattle.curves.proofs.EveryLaws.{and-both}
-use Rattle.table.proofs.PriorityLaws.{foremost-hit}
+use Rattle.table.proofs.PriorityLaws.{foremost-hit, foremost-some}
 
 pub both-and : (a b : Bool) → T a → T b → T (a && b)
 both-and true b t r = r
 both-and false b t r = t
 
 module _ (t : Table) where
-  -- where one of the kinds looked at passes, one is found
-  foremost-from-some : (p : ℕ → Bool) (f kind j : ℕ) → j < t .count → kind ≤ kindOf t j → kindOf t j < kind + f → T (p j)
-      → foremostFrom t p f kind ≢ 0
-  unfolding foremostFrom
-  foremost-from-some p zero kind j l a b h = absurd (omega arith)
-  foremost-from-some p (suc f) kind j l a b h =
-      go (lowest (λ i. eqb (kindOf t i) kind && p i) (t .count)) refl (eq-or-lt-of-le a) (λ m. foremost-from-some p f (suc kind) j l m (omega arith) h)
-    where
-      go : (x : ℕ) → lowest (λ i. eqb (kindOf t i) kind && p i) (t .count) ≡ x → (kind ≡ kindOf t j) ⊎ (kind < kindOf t j)
-          → (kind < kindOf t j → foremostFrom t p f (suc kind) ≢ 0) → _≢_ {A = ℕ} (elim x [ zero ↦ foremostFrom t p f (suc kind) | suc i ↦ suc i ]) 0
-      go (suc i) q c r = omega arith
-      go zero q (inr m) r = r m
-      go zero q (inl e) r = absurd (lowest-some (λ i. eqb (kindOf t i) kind && p i) (t .count) j l here q)
-        where
-          here : T (eqb (kindOf t j) kind && p j)
-          here = both-and (eqb (kindOf t j) kind) (p j) (subst (λ (x : ℕ). T (eqb (kindOf t j) x)) (sym e) (eqb-refl (kindOf t j))) h
-
-  pub foremost-some : Sound t → (p : ℕ → Bool) (j : ℕ) → j < t .count → T (p j) → foremost t p ≢ 0
-  foremost-some so p j l h = foremost-from-some p client timer j l (so .kind-from j l) (omega (arith, so .kind-to j l)) h
+  found-some : Sound t → (p : ℕ → Bool) (j : ℕ) → j < t .count → T (p j) → foremost t p ≢ 0
+  found-some so p j l h = foremost-some t p j l h (so .kind-from j l) (so .kind-to j l)
 
   -- every callback in the cache is one of the table's, waits, and is polled
   abbrev pub Cached : ℕ → List ℕ → Type 0
@@ -83,9 +60,9 @@ module _ (t : Table) where
 
       -- where no unpolled callback waits, a poll finds whoever waits
       found : (j : ℕ) → j < t .count → 0 < getD ws j 0 → foremost t unpolled ≡ 0 → (b : Bool) → isPolled t j ≡ b → foremost t (has (gatheredOf t ws)) ≢ 0
-      found j l w z true q = foremost-some so (has (gatheredOf t ws)) j l (gathered-some ws j l (subst T (sym q) tt) w)
+      found j l w z true q = found-some so (has (gatheredOf t ws)) j l (gathered-some ws j l (subst T (sym q) tt) w)
       found j l w z false q =
-          absurd (foremost-some so unpolled j l (both-and (not (isPolled t j)) (waits ws j) (subst (λ (b : Bool). T (not b)) (sym q) tt) (lt→ltb 0 (getD ws j 0) w)) z)
+          absurd (found-some so unpolled j l (both-and (not (isPolled t j)) (waits ws j) (subst (λ (b : Bool). T (not b)) (sym q) tt) (lt→ltb 0 (getD ws j 0) w)) z)
 
       go : (x : ℕ) → foremost t unpolled ≡ x → (y : ℕ) → foremost t (has c) ≡ y
           → Chosen ws (elim x [

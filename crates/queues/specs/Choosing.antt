@@ -13,6 +13,7 @@ use Rattle.queues.specs.Queues.{waits}
 unfoldable pub isPolled : Table → ℕ → Bool
 isPolled t i = not (isTimer t i)
 
+-- whom step 3 chooses (an index, 0 for nobody), the cache then, whether it polled, and how many the poll took
 abbrev pub choice : ℕ → ℕ → Bool → ℕ → Choice
 choice i c polled gathered = record { chosen = i; cache = c; polled = polled; gathered = gathered }
 

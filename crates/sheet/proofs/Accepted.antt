@@ -70,6 +70,4 @@ module _ (b : List ℕ) (k : ℕ) (ok : (analysisFault b k) .number ≡ 0) where
 -- "The reported bound of i is the number that the analyser wrote .. into place i of the row"
 pub analysed-at : (b row : List ℕ) → (analysisFault b (length row)) .number ≡ 0 → (i : ℕ) → i < (tableAt b) .count → getD (rowOf b row) i 0 ≡ boundOf (tableAt b) i
 unfolding rowOf
-analysed-at b row ok i l =
-    ap (λ (c : Bool). getD (elim c [ true ↦ over row 0 (boundsTo (tableAt b) ((tableAt b) .count)) | false ↦ row ]) i 0) (eq-eqb ((analysisFault b (length row)) .number) 0 ok)
-    ∙ row-at (tableAt b) row ((tableAt b) .count) i l
+analysed-at b row ok i l = rw (eq-eqb ((analysisFault b (length row)) .number) 0 ok, rowOf) (row-at (tableAt b) row ((tableAt b) .count) i l)

@@ -1,6 +1,7 @@
 -- The first of a mask is the lowest slot that passes its test, and the first in priority is found in the kinds' masks. Assumes nothing.
 -- kinds-more: one record sorted in. next-some, next-none: an index or what follows. first-lowest, first-gather, first-both: lowest by trailing zeros.
--- foremost-law: the first in priority from the kinds' masks. foremost-hit, foremost-first: it passes, and precedes whoever else does.
+-- foremost-law: the first in priority from the kinds' masks. foremost-hit, foremost-some, foremost-first: it passes, is there where one
+-- passes, and precedes whoever else does.
 use mathlib.Core.Path.{_≡_, refl, sym, ap, ap₂, _∙_}
 use mathlib.Core.Logic.{_⊎_, inl, inr, _≢_}
 use mathlib.Core.Bool.{Bool, true, false, _&&_, _||_, and-assoc, or-true}
@@ -114,64 +115,72 @@ by-kind t p P f kind none some = go (lowest (λ i. eqb (kindOf t i) kind && p i)
     go zero e = none e
     go (suc k) e = some k e
 
-module _ (t : Table) (p : ℕ → Bool) (i : ℕ) where
+module _ (t : Table) (p : ℕ → Bool) where
+  abbrev ofKind : ℕ → ℕ → Bool
+  ofKind kind i = eqb (kindOf t i) kind && p i
+
   -- whoever is found passes
-  hit-from : (f kind : ℕ) → foremostFrom t p f kind ≡ suc i → (i < t .count) × T (p i)
+  hit-from : (i f kind : ℕ) → foremostFrom t p f kind ≡ suc i → (i < t .count) × T (p i)
   unfolding foremostFrom
-  hit-from zero kind = λ e. absurd (omega arith)
-  hit-from (suc f) kind =
+  hit-from i zero kind = λ e. absurd (omega arith)
+  hit-from i (suc f) kind =
       by-kind t p (λ x. x ≡ suc i → (i < t .count) × T (p i)) f kind
-      (λ z e. hit-from f (suc kind) e)
-      (λ k z e.
-      let a = lowest-hit (λ j. eqb (kindOf t j) kind && p j) (t .count) i (z ∙ e) in
-      (a .0, and-both (eqb (kindOf t i) kind) (p i) (a .1) .1))
+      (λ z e. hit-from i f (suc kind) e)
+      (λ k z e. (let a = lowest-hit (ofKind kind) (t .count) i (z ∙ e) in (a .0, and-both (eqb (kindOf t i) kind) (p i) (a .1) .1)))
 
-  pub foremost-hit : foremost t p ≡ suc i → (i < t .count) × T (p i)
-  foremost-hit e = hit-from client timer e
+  pub foremost-hit : (i : ℕ) → foremost t p ≡ suc i → (i < t .count) × T (p i)
+  foremost-hit i e = hit-from i client timer e
 
-  -- "Priority goes by kind number, then by index; the smaller goes first": whoever is found precedes each other that passes
-  module _ (j : ℕ) (l : j < t .count) (pass : T (p j)) (other : j ≢ i) where
-    -- of the kinds from `kind` on
-    first-from : (f kind : ℕ) → kind ≤ kindOf t j → kindOf t j < kind + f → foremostFrom t p f kind ≡ suc i → precedes t i j ≡ true
-    unfolding foremostFrom precedes
-    first-from zero kind a b = λ e. absurd (omega arith)
-    first-from (suc f) kind a b =
-        by-kind t p (λ x. x ≡ suc i → precedes t i j ≡ true) f kind
-        (λ z e. first-from f (suc kind) (later z) (omega arith) e)
-        (λ k z e. found (z ∙ e) (ℕ-discrete (kindOf t j) kind))
+  -- where slot j passes
+  module _ (j : ℕ) (l : j < t .count) (pass : T (p j)) where
+    passes : (kind : ℕ) → kindOf t j ≡ kind → T (ofKind kind j)
+    passes kind q = T-holds (ofKind kind j) (ap₂ _&&_ (eq-eqb (kindOf t j) kind q) (holds (p j) pass))
+
+    -- a search of one kind that finds nobody has j in a later one
+    later : (kind : ℕ) → kind ≤ kindOf t j → lowest (ofKind kind) (t .count) ≡ 0 → suc kind ≤ kindOf t j
+    later kind a z = go (ℕ-discrete (kindOf t j) kind)
       where
-        test : ℕ → Bool
-        test x = eqb (kindOf t x) kind && p x
+        go : Dec (kindOf t j ≡ kind) → suc kind ≤ kindOf t j
+        go (yes q) = absurd (T-not (ofKind kind j) (lowest-none (ofKind kind) (t .count) z j l) (passes kind q))
+        go (no q) = omega arith
 
-        passes : kindOf t j ≡ kind → T (test j)
-        passes q = T-holds (test j) (ap₂ _&&_ (eq-eqb (kindOf t j) kind q) (holds (p j) pass))
+    -- somebody is found
+    some-from : (f kind : ℕ) → kind ≤ kindOf t j → kindOf t j < kind + f → foremostFrom t p f kind ≢ 0
+    some-from zero kind a b = absurd (omega arith)
+    some-from (suc f) kind a b = by-kind t p (λ x. x ≢ 0) f kind (λ z. some-from f (suc kind) (later kind a z) (omega arith)) (λ k z e. omega arith)
 
-        later : lowest test (t .count) ≡ 0 → suc kind ≤ kindOf t j
-        later z = go (ℕ-discrete (kindOf t j) kind)
-          where
-            go : Dec (kindOf t j ≡ kind) → suc kind ≤ kindOf t j
-            go (yes q) = absurd (T-not (test j) (lowest-none test (t .count) z j l) (passes q))
-            go (no q) = omega arith
+    pub foremost-some : timer ≤ kindOf t j → kindOf t j ≤ client → foremost t p ≢ 0
+    foremost-some a b = some-from client timer a (omega arith)
 
-        found : lowest test (t .count) ≡ suc i → Dec (kindOf t j ≡ kind) → precedes t i j ≡ true
-        found e (yes q) =
-            ap₂ (λ (x y : Bool). ltb (kindOf t i) (kindOf t j) || (x && y)) (eq-eqb (kindOf t i) (kindOf t j) (own ∙ sym q)) (lt-ltb i j before)
-            ∙ or-true (ltb (kindOf t i) (kindOf t j))
-          where
-            own : kindOf t i ≡ kind
-            own = eqb→eq (kindOf t i) kind (and-both (eqb (kindOf t i) kind) (p i) (lowest-hit test (t .count) i e .1) .0)
+    -- "Priority goes by kind number, then by index; the smaller goes first": whoever is found, if it is another, precedes j
+    module _ (i : ℕ) (other : j ≢ i) where
+      -- found among those of one kind
+      found : (kind : ℕ) → kind ≤ kindOf t j → lowest (ofKind kind) (t .count) ≡ suc i → precedes t i j ≡ true
+      unfolding precedes
+      found kind a e = go (ℕ-discrete (kindOf t j) kind)
+        where
+          own : kindOf t i ≡ kind
+          own = eqb→eq (kindOf t i) kind (and-both (eqb (kindOf t i) kind) (p i) (lowest-hit (ofKind kind) (t .count) i e .1) .0)
 
-            before : i < j
-            before = go (le-or-lt j i)
-              where
-                go : (j ≤ i) ⊎ (i < j) → i < j
-                go (inl h) = absurd (T-not (test j) (lowest-first test (t .count) i j e (omega arith)) (passes q))
-                go (inr h) = h
-        found e (no q) =
-            ap (λ (x : Bool). x || (eqb (kindOf t i) (kindOf t j) && ltb i j)) (lt-ltb (kindOf t i) (kindOf t j) (omega (arith, own)))
-          where
-            own : kindOf t i ≡ kind
-            own = eqb→eq (kindOf t i) kind (and-both (eqb (kindOf t i) kind) (p i) (lowest-hit test (t .count) i e .1) .0)
+          before : kindOf t j ≡ kind → i < j
+          before q = pick (le-or-lt j i)
+            where
+              pick : (j ≤ i) ⊎ (i < j) → i < j
+              pick (inl h) = absurd (T-not (ofKind kind j) (lowest-first (ofKind kind) (t .count) i j e (omega arith)) (passes kind q))
+              pick (inr h) = h
 
-    pub foremost-first : timer ≤ kindOf t j → kindOf t j ≤ client → foremost t p ≡ suc i → precedes t i j ≡ true
-    foremost-first a b e = first-from client timer a (omega arith) e
+          go : Dec (kindOf t j ≡ kind) → precedes t i j ≡ true
+          go (yes q) =
+              ap₂ (λ (x y : Bool). ltb (kindOf t i) (kindOf t j) || (x && y)) (eq-eqb (kindOf t i) (kindOf t j) (own ∙ sym q)) (lt-ltb i j (before q))
+              ∙ or-true (ltb (kindOf t i) (kindOf t j))
+          go (no q) = ap (λ (x : Bool). x || (eqb (kindOf t i) (kindOf t j) && ltb i j)) (lt-ltb (kindOf t i) (kindOf t j) (omega (arith, own)))
+
+      first-from : (f kind : ℕ) → kind ≤ kindOf t j → kindOf t j < kind + f → foremostFrom t p f kind ≡ suc i → precedes t i j ≡ true
+      first-from zero kind a b = λ e. absurd (omega arith)
+      first-from (suc f) kind a b =
+          by-kind t p (λ x. x ≡ suc i → precedes t i j ≡ true) f kind
+          (λ z e. first-from f (suc kind) (later kind a z) (omega arith) e)
+          (λ k z e. found kind a (z ∙ e))
+
+      pub foremost-first : timer ≤ kindOf t j → kindOf t j ≤ client → foremost t p ≡ suc i → precedes t i j ≡ true
+      foremost-first a b e = first-from client timer a (omega arith) e
