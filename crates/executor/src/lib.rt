@@ -1,5 +1,5 @@
 // The executor as a machine that moves tick by tick (document 01, 'One tick of the machine').
-// starting: a machine from a table's bytes. ticks: one tick, its refusals in their order. state: what number 29 refuses.
+// starting: a machine from a table's bytes. ticks: one tick, its refusals in their order. state: the faults of a state around its table.
 // effect: steps 1 to 4 put together. work: step 4.
 
 mod effect;

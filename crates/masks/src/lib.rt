@@ -1,6 +1,6 @@
 // Masks of sixteen bits, one bit for each callback of a table: slot i, counted from 0, is callback i + 1.
 // A slot is tested, set and cleared by shifts and masks; the slots are counted by the count of ones, and the first is found by
-// trailing zeros. What each function gives back is set out by arithmetic in specs/Mask.antt.
+// trailing zeros. What each function gives back is set out by arithmetic in specs.
 
 ghost use mathlib.Core.Path.{_≡_};
 ghost use Prim.Native.Nat.{ℕ, _<_};

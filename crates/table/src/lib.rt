@@ -26,7 +26,7 @@ pub struct Callback {
     pub cost: [u16; 8],
 }
 
-// The header's numbers, H as given, and sixteen places; those beyond count are blank.
+// The header's numbers, H as given, and sixteen places. Nobody looks at those beyond count; a reading leaves them blank.
 pub struct Table {
     pub edition: u8,
     pub count: u8,
