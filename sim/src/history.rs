@@ -1,17 +1,19 @@
-//! The words of a history, read from its ticks and their answers.
+//! Activations, starts and completions in a history, the test that it is within the curves, and the
+//! conclusions of demand 3. Sections in quotes are document 01's.
 
 use crate::machine::{bit, start, Answer, Reply, Tick};
 use crate::sheet::{arrivals, cost, supply};
 use crate::table::{Table, LARGEST, MOST_CALLBACKS};
 
-/// "A history is a list of ticks, each with its mask, supply and cost.", with the answers.
+/// 'A history': the ticks, and in the same places the replies to them.
 #[derive(Clone, Debug, Default, PartialEq, Eq)]
 pub struct History {
     pub ticks: Vec<Tick>,
     pub replies: Vec<Reply>,
 }
 
-/// "Tick 0 gets the fresh state, each later tick the state that the one before it handed back"
+/// 'A history': the ticks with their replies, taken in order from the fresh state of these bytes.
+/// All replies are 29 where the start is refused.
 pub fn play(bytes: &[u8], ticks: &[Tick]) -> History {
     let mut state = start(bytes).state;
     let mut replies = Vec::new();
@@ -44,9 +46,9 @@ fn finished(reply: &Reply) -> Option<usize> {
 }
 
 impl History {
-    /// "A head is activated at time t by its bit in the mask of tick t. A follower is activated at
-    /// time t + 1 when tick t answers that a callback naming it as next finished. Activations of a
-    /// callback are counted from 1 in order of time."
+    /// 'A history', activations: their times in ascending order, the k-th at place k - 1. A head
+    /// has one at t for its bit in tick t, a refused tick too; a follower has one at t + 1 where
+    /// tick t finishes the callback before it in the chain. Empty for an index that is not 1 to n.
     pub fn activations(&self, table: &Table, index: usize) -> Vec<u64> {
         if index == 0 || index > table.count() {
             return Vec::new();
@@ -63,8 +65,8 @@ impl History {
         activating.map(|(_, time)| time).collect()
     }
 
-    /// "Instance k of callback i starts at time t if tick t says that one started and names callback
-    /// i, instance k."
+    /// 'A history', starts: the time and the instance number of each tick that names the callback
+    /// and reports a start.
     pub fn starts(&self, index: usize) -> Vec<(u64, u64)> {
         let mut starts = Vec::new();
         for (reply, time) in self.replies.iter().zip(0..) {
@@ -78,15 +80,15 @@ impl History {
         starts
     }
 
-    /// "Its cost is the one offered in that tick."
+    /// 'A history', starts: what each started instance costs, as offered in the tick of its start.
     pub fn costs(&self, index: usize) -> Vec<u64> {
         let starts = self.starts(index).into_iter();
         let ticks = starts.filter_map(|(time, _)| self.ticks.get(time as usize));
         ticks.map(|tick| tick.cost).collect()
     }
 
-    /// "The k-th completion of i is at time t + 1, tick t being the k-th that answers finished
-    /// callback i."
+    /// 'A history', completions: their times in ascending order, the k-th at place k - 1. A finish
+    /// in tick t is one at t + 1.
     pub fn completions(&self, index: usize) -> Vec<u64> {
         let replies = self.replies.iter().zip(1..);
         let finishing = replies.filter(|(reply, _)| finished(reply) == Some(index));
@@ -120,9 +122,9 @@ pub enum Departure {
     },
 }
 
-/// "A history is within the curves if each window of D ticks holds at most a(D) activations of each
-/// head and at least s(D) supplied ticks; any n consecutive started instances of a callback cost at
-/// most E(n) together; only heads are in the masks; and every offered cost is in 1 to 60,000."
+/// 'Curves', histories within them: the first departure, if any, sought tick by tick in mask and
+/// offered cost, then in the arrivals of each head, the supply, and the costs of each callback's
+/// started instances.
 pub fn within_curves(table: &Table, history: &History) -> Result<(), Departure> {
     check_ticks(table, history)?;
     for head in (1..=table.count()).filter(|&i| table.is_head(i)) {
@@ -135,7 +137,8 @@ pub fn within_curves(table: &Table, history: &History) -> Result<(), Departure> 
     Ok(())
 }
 
-/// "only heads are in the masks; and every offered cost is in 1 to 60,000"
+/// 'Curves', histories within them: all bits of a mask are heads', and every cost, used or not, is
+/// one of 1 to 60,000.
 fn check_ticks(table: &Table, history: &History) -> Result<(), Departure> {
     for (place, tick) in history.ticks.iter().enumerate() {
         let stranger = |i: usize| tick.mask & bit(i) != 0 && !table.is_head(i);
@@ -149,8 +152,9 @@ fn check_ticks(table: &Table, history: &History) -> Result<(), Departure> {
     Ok(())
 }
 
-/// "A window of D ticks is any D consecutive ticks of the list." The window (from, length) that
-/// ends first, and of those the one that begins first, whose values together are wrong.
+/// 'A history', windows: consecutive values inside the list. Gives the window (from, length) that
+/// ends first, and of those the one that begins first, whose values together are wrong; none where
+/// all are right.
 fn first_window(values: &[u64], wrong: impl Fn(usize, u64) -> bool) -> Option<(usize, usize)> {
     let mut sums = vec![0];
     for (place, value) in values.iter().enumerate() {
@@ -166,7 +170,7 @@ fn first_window(values: &[u64], wrong: impl Fn(usize, u64) -> bool) -> Option<(u
     None
 }
 
-/// "each window of D ticks holds at most a(D) activations of each head"
+/// 'Curves', arrivals: in a window of D ticks the head is activated a(D) times or less often.
 fn check_arrivals(table: &Table, history: &History, head: usize) -> Result<(), Departure> {
     let ticks = history.ticks.iter();
     let values: Vec<u64> = ticks
@@ -181,7 +185,7 @@ fn check_arrivals(table: &Table, history: &History, head: usize) -> Result<(), D
     }
 }
 
-/// "and at least s(D) supplied ticks"
+/// 'Curves', supply: a window of D ticks has s(D) supplied ticks or more.
 fn check_supply(table: &Table, history: &History) -> Result<(), Departure> {
     let ticks = history.ticks.iter();
     let values: Vec<u64> = ticks.map(|tick| u64::from(tick.supplied)).collect();
@@ -194,7 +198,8 @@ fn check_supply(table: &Table, history: &History) -> Result<(), Departure> {
     }
 }
 
-/// "any n consecutive started instances of a callback cost at most E(n) together"
+/// 'Curves', cost: the costs of n instances of the callback, started one after the other, add up to
+/// E(n) or less.
 fn check_costs(table: &Table, history: &History, callback: usize) -> Result<(), Departure> {
     let values = history.costs(callback);
     let entries = &table.callback(callback).entries;
@@ -244,7 +249,8 @@ pub fn conclusions(table: &Table, bounds: &[u64], history: &History) -> Result<(
     Ok(())
 }
 
-/// "It starts before its activation if i has fewer than k activations at times up to t."
+/// 'A history', starts: instance k starts at time t only with at least k activations of the
+/// callback by then, one at t included.
 fn check_starts(table: &Table, callback: usize, history: &History) -> Result<(), Violation> {
     let activations = history.activations(table, callback);
     for (time, instance) in history.starts(callback) {
@@ -260,9 +266,8 @@ fn check_starts(table: &Table, callback: usize, history: &History) -> Result<(),
     Ok(())
 }
 
-/// "A history of N ticks runs as far as time N. So with a bound R, and the k-th activation of the
-/// head at time v, wherever v + R is at most N the k-th completion is there, at time v + R or
-/// earlier."
+/// 'A history', reported bound: the k-th completion comes within `bound` of the k-th activation of
+/// the head. Nothing is asked where that time lies after N, the number of ticks.
 fn check_completions(
     table: &Table,
     callback: usize,

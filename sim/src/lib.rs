@@ -1,6 +1,6 @@
 //! The cue executor and its timing sheet. `table`, `sheet`, `machine` and
-//! `history` are written from document 01 alone; quoted sentences in the
-//! comments are that document's.
+//! `history` are written from document 01 alone; their comments name the
+//! section, step or refusal that the code renders.
 
 pub mod check;
 pub mod frames;

@@ -1,11 +1,13 @@
-//! The machine: one tick at a time (refusals 18 to 21 and 29).
+//! The machine: one tick at a time (refusals 18 to 21 and 29). Steps and sections in quotes are
+//! document 01's.
 
 use crate::table::{read, refusal, Kind, Refusal, Table, LARGEST, MOST_CALLBACKS};
 
 pub const MOST_TICKS: u64 = 1_000_000_000;
 pub const MOST_WAITING: u64 = 255;
 
-/// "The machine takes its state and hands the next state back." Anyone may write anything here.
+/// 'One tick of the machine': all that one tick passes on to the next. Anyone may write anything
+/// here.
 #[derive(Clone, Debug, PartialEq, Eq)]
 pub struct State {
     /// The bytes of the table.
@@ -19,8 +21,8 @@ pub struct State {
     pub ticks: u64,
 }
 
-/// "A tick takes an arrival mask of sixteen bits (bit i - 1 for callback i), whether the tick is
-/// supplied, and the cost of an instance that starts in it (otherwise unused)."
+/// 'One tick of the machine', input: the arrivals, callback i at bit i - 1; whether there is
+/// supply; and a cost, which matters only where an instance starts.
 #[derive(Clone, Copy, Debug, PartialEq, Eq)]
 pub struct Tick {
     pub mask: u16,
@@ -28,8 +30,8 @@ pub struct Tick {
     pub cost: u64,
 }
 
-/// "The tick answers with one of four: no supply; idle; ran callback i, instance k; finished
-/// callback i, instance k."
+/// 'One tick of the machine', answers: `Idle` is a supplied tick in which nothing runs; `Ran` names
+/// an instance with units left, `Finished` one without.
 #[derive(Clone, Copy, Debug, PartialEq, Eq)]
 pub enum Answer {
     NoSupply,
@@ -38,8 +40,9 @@ pub enum Answer {
     Finished { callback: usize, instance: u64 },
 }
 
-/// "Beside it stand whether one started, whether a polling point fell here, and how many callbacks
-/// the poll put in the cache (0 without one)."
+/// 'One tick of the machine', answers: the answer or the refusal; then whether an instance started,
+/// whether this was a polling point, and the number of callbacks cached by the poll, 0 without a
+/// poll.
 #[derive(Clone, Copy, Debug, PartialEq, Eq)]
 pub struct Reply {
     pub outcome: Result<Answer, Refusal>,
@@ -62,10 +65,8 @@ pub struct Start {
     pub refusal: Option<Refusal>,
 }
 
-/// "A machine is started from a table's bytes and refuses them as the reader does, with 1 to 14. A
-/// fresh state holds that table, with no ticks taken, nothing waiting, running or cached, and no
-/// instance finished. A refused start gives a state that is zero throughout and has no callbacks"
-/// Total.
+/// 'One tick of the machine', start: a state with these bytes, all else zero. Where the reader
+/// refuses the bytes (1 to 14): its refusal, and the same state without a table. Total.
 pub fn start(bytes: &[u8]) -> Start {
     let refusal = read(bytes).err();
     let table = match refusal {
@@ -84,7 +85,8 @@ pub fn start(bytes: &[u8]) -> Start {
     Start { state, refusal }
 }
 
-/// "bit i - 1 for callback i" (no bit for an index that is not 1 to 16)
+/// The bit of a callback in a mask, the lowest being callback 1's (no bit for an index that is not
+/// 1 to 16).
 pub fn bit(index: usize) -> u16 {
     if (1..=MOST_CALLBACKS).contains(&index) {
         1 << (index - 1)
@@ -99,7 +101,8 @@ fn kind_mask(table: &Table, kind: Kind) -> u16 {
     of_kind.fold(0, |mask, i| mask | bit(i))
 }
 
-/// "Priority goes by kind number, then by index; the smaller goes first." 0 where there is none.
+/// 'The callback table', priority: of the callbacks in the mask the one with the lowest kind, among
+/// equals the one with the lowest index. 0 where there is none.
 fn first(table: &Table, mask: u16) -> usize {
     for kind in [Kind::Timer, Kind::Subscription, Kind::Service, Kind::Client] {
         let of_kind = mask & kind_mask(table, kind);
@@ -128,8 +131,8 @@ impl State {
         self.cache & bit(index) != 0
     }
 
-    /// "A refused tick gives none of the four, and beside it no, no and 0." "Row and state stay
-    /// untouched". Total.
+    /// 'One tick of the machine': the next state and the reply. Where the tick is refused, the
+    /// state is the one taken, nothing started, nothing was polled, and `gathered` is 0. Total.
     pub fn tick(self, tick: Tick) -> Step {
         let stepped = self.checked(tick).and_then(|table| {
             let step = self.clone().advance(&table, tick);
@@ -163,7 +166,7 @@ impl State {
         Ok(table)
     }
 
-    /// "the state handed in has any of these faults" (the first, about the table, apart)
+    /// Refusal 29: whether the state has any of its faults (the first, about the table, apart).
     fn has_fault(&self, table: &Table) -> bool {
         self.beyond_fault(table)
             || self.count_fault(table)
@@ -171,7 +174,7 @@ impl State {
             || self.running_fault(table)
     }
 
-    /// "a callback beyond n runs, is cached or has a waiting or finished count not 0"
+    /// Refusal 29: an index above n is running or cached, or has waiting or finished instances.
     fn beyond_fault(&self, table: &Table) -> bool {
         let beyond = table.count() + 1..=MOST_CALLBACKS;
         self.running > table.count()
@@ -180,19 +183,20 @@ impl State {
                 .any(|i| self.cached(i) || self.waiting(i) != 0 || self.finished(i) != 0)
     }
 
-    /// "a waiting count is above 255, a callback has finished more instances than ticks were taken"
+    /// Refusal 29: a callback has more than 255 waiting instances or, by itself, more finished ones
+    /// than `ticks`.
     fn count_fault(&self, table: &Table) -> bool {
         (1..=table.count()).any(|i| self.waiting(i) > MOST_WAITING || self.finished(i) > self.ticks)
     }
 
-    /// "a cached [..] callback has none waiting, a timer is cached"
+    /// Refusal 29: the cache holds a timer, or a callback of which no instance waits.
     fn cache_fault(&self, table: &Table) -> bool {
         let mut cached = (1..=table.count()).filter(|&i| self.cached(i));
         cached.any(|i| self.waiting(i) == 0 || table.callback(i).kind == Kind::Timer)
     }
 
-    /// "a [..] running callback has none waiting, [..] a running non-timer is not cached, or the
-    /// units left are not 1 to 60,000 while something runs, or not 0 while nothing does"
+    /// Refusal 29: no instance of the running callback waits, it is a non-timer outside the cache,
+    /// or the units are out of range: 1 to 60,000 with a running callback, only 0 without.
     fn running_fault(&self, table: &Table) -> bool {
         if self.running == 0 {
             return self.units != 0;
@@ -203,8 +207,8 @@ impl State {
             || !(1..=LARGEST).contains(&self.units)
     }
 
-    /// "a head in the mask has 255 waiting before the tick, or a next that this tick would activate
-    /// has 255 (lowest such)"
+    /// Refusal 21: the lowest callback that the tick activates, through the mask or as next of what
+    /// finishes in `reply`, though 255 of its instances wait when the tick begins.
     fn check_room(&self, table: &Table, tick: Tick, reply: Reply) -> Result<(), Refusal> {
         let activated = match reply.outcome {
             Ok(Answer::Finished { callback, .. }) => bit(table.callback(callback).next),
@@ -229,7 +233,7 @@ impl State {
             polled: false,
             gathered: 0,
         };
-        // "In an unsupplied tick nothing else happens."
+        // Step 2: without supply nothing is chosen and no instance runs.
         if tick.supplied {
             if self.running == 0 {
                 self.choose(table, tick.cost, &mut reply);
@@ -239,7 +243,7 @@ impl State {
         Step { state: self, reply }
     }
 
-    /// "Heads in the mask gain one waiting instance each."
+    /// Step 1: each callback in the mask has one more instance waiting.
     fn arrive(&mut self, mask: u16) {
         for index in 1..=MOST_CALLBACKS {
             if mask & bit(index) != 0 {
@@ -248,10 +252,10 @@ impl State {
         }
     }
 
-    /// "If nothing runs: the first timer in priority that waits is chosen. If none waits, the first
-    /// callback in the cache. If the cache is empty too, this is a polling point: the cache takes
-    /// every non-timer that waits, and the first in it is chosen, if any. The chosen instance
-    /// starts and runs, its units being the tick's cost."
+    /// Step 3, with nothing running: by priority a waiting timer, or else a cached callback. With
+    /// neither this is a polling point: the waiting non-timers, possibly none, become the cache,
+    /// and the choice is among them. The chosen instance starts, with the offered cost as its
+    /// units.
     fn choose(&mut self, table: &Table, cost: u64, reply: &mut Reply) {
         let waits = (1..=table.count()).filter(|&i| self.waiting(i) > 0);
         let waiting = waits.fold(0, |mask, i| mask | bit(i));
@@ -272,14 +276,15 @@ impl State {
         }
     }
 
-    /// "The running instance loses one unit. At zero it finishes at the time after this tick, leaves
-    /// its callback's waiting count and the cache, and activates next at that time."
+    /// Step 4: the running instance uses one unit; idle where none runs. Without units left it
+    /// finishes at the end of the tick: it no longer waits, its callback is out of the cache, and
+    /// next has one more instance waiting from the following tick on.
     fn work(&mut self, table: &Table) -> Answer {
         let callback = self.running;
         if callback == 0 {
             return Answer::Idle;
         }
-        // "Instances count from 1."
+        // The first instance is 1, and all before this one have finished.
         let instance = self.finished(callback) + 1;
         self.units -= 1;
         if self.units > 0 {
@@ -297,7 +302,7 @@ impl State {
     }
 }
 
-/// "a bit set in the mask belongs to no head of the table (lowest such bit, plus 1)"
+/// Refusal 20: the lowest index in the mask that is no head's; above n none is.
 fn check_mask(table: &Table, mask: u16) -> Result<(), Refusal> {
     for index in 1..=MOST_CALLBACKS {
         if mask & bit(index) != 0 && !table.is_head(index) {

@@ -94,7 +94,8 @@ fn number(word: &str) -> Result<u64, String> {
     word.parse().map_err(|_| format!("not a number: {word}\n"))
 }
 
-/// "a line each (the window; then index and bound). A refusal prints one line"
+/// Document 01, P6: what `bounds` prints, first the window's line, then one
+/// line for each callback; for a refusal its line alone.
 fn sheet_text(bytes: &[u8]) -> String {
     let mut row = [0; MOST_CALLBACKS];
     match analyse(bytes, &mut row) {

@@ -1,9 +1,10 @@
-//! The curves and the sheet: window, bounds and the analyser (refusals 15 to 17).
+//! The curves and the sheet: window, bounds and the analyser (refusals 15 to 17). Sections in
+//! quotes are document 01's.
 
 use crate::table::{read, refusal, Callback, Refusal, Table, MOST_CALLBACKS};
 
-/// "Arrivals of a head, at most: a(0) = 0; for D over 0, a(D) is the smaller of (D + J) / T and
-/// D / d, each rounded up." (T and d must not be zero)
+/// 'Curves', arrivals: the most activations of a head in D = `length` ticks, which is 0 for no
+/// ticks, whatever J is, and otherwise min(⌈(D + J) / T⌉, ⌈D / d⌉). (T and d must not be zero)
 pub fn arrivals(head: &Callback, length: u64) -> u64 {
     if length == 0 {
         return 0;
@@ -13,8 +14,8 @@ pub fn arrivals(head: &Callback, length: u64) -> u64 {
     by_period.min(by_distance)
 }
 
-/// "Cost of n consecutive instances, at most: E(0) = 0, the entries up to m, and beyond them
-/// E(q × m + r) = q × E(m) + E(r) with r below m."
+/// 'Curves', cost: the most that this many instances in a row cost together: 0 for none, an entry
+/// for up to m, beyond that E(q × m + r) = q × E(m) + E(r), r < m. (there must be an entry)
 pub fn cost(entries: &[u64], instances: u64) -> u64 {
     let most = entries.len() as u64;
     if instances == 0 {
@@ -27,8 +28,8 @@ pub fn cost(entries: &[u64], instances: u64) -> u64 {
     times * entries[entries.len() - 1] + cost(entries, rest)
 }
 
-/// "Supply, at least: with g = P - Q, s(D) = 0 for D below g; otherwise, with k = (D - g) / P
-/// rounded down, s(D) = k × Q + the larger of 0 and D - 2 × g - k × P"
+/// 'Curves', supply: the fewest supplied ticks among D = `length` in a row. With g = P - Q it is 0
+/// where D < g, otherwise k × Q + max(0, D - 2 × g - k × P), k = ⌊(D - g) / P⌋. (Q must be 1 to P)
 pub fn supply(budget: u64, period: u64, length: u64) -> u64 {
     let gap = period - budget;
     if length < gap {
@@ -38,34 +39,35 @@ pub fn supply(budget: u64, period: u64, length: u64) -> u64 {
     whole * budget + length.saturating_sub(2 * gap + whole * period)
 }
 
-/// "a for a follower is that of its chain's head." The cost curve of the callback at a(length).
+/// 'The sheet', E(a(D)): the callback's cost curve at the arrivals in D = `length` ticks. A
+/// follower takes the arrivals curve of the head of its chain.
 fn cost_in(table: &Table, index: usize, length: u64) -> u64 {
     let head = table.callback(table.head_of(index));
     cost(&table.callback(index).entries, arrivals(head, length))
 }
 
-/// "the sum over all callbacks of E(a(W))"
+/// 'The sheet', window: the costs E(a(D)) of callbacks 1 to n, added up.
 fn cost_of_all(table: &Table, length: u64) -> u64 {
     let all = 1..=table.count();
     all.map(|i| cost_in(table, i, length)).sum()
 }
 
-/// "the sum over all other callbacks of E(a(D))"
+/// 'The sheet', F(A): the costs E(a(D)) of all but this callback, added up; 0 where it is alone.
 fn cost_of_others(table: &Table, index: usize, length: u64) -> u64 {
     let others = (1..=table.count()).filter(|&i| i != index);
     others.map(|i| cost_in(table, i, length)).sum()
 }
 
-/// "The window W is the least length in 1 to H with s(W) at least the sum over all callbacks of
-/// E(a(W))."
+/// 'The sheet', window: W, the first length from 1 to the horizon whose supply covers the costs of
+/// all callbacks; none where no length does.
 pub fn window_literal(table: &Table) -> Option<u64> {
     (1..=table.longest_window())
         .find(|&w| supply(table.budget, table.period, w) >= cost_of_all(table, w))
 }
 
-/// "For callback e and each offset A in 0 to W - 1, F(A) is the least positive D with s(D) at least
-/// E of e at a(A + 1), plus the sum over all other callbacks of E(a(D)). The bound of e is the
-/// largest F(A) - A. F(A) is never above W."
+/// 'The sheet', bound: the largest response F(A) - A over the offsets A below `window`. F(A) is the
+/// first length, from 1 on, whose supply covers the callback's own E(a(A + 1)) and the costs of the
+/// others in that length. Lengths end at `window`, since F(A) does not exceed W.
 pub fn bound_literal(table: &Table, index: usize, window: u64) -> u64 {
     let mut bound = 0;
     for offset in 0..window {
@@ -123,9 +125,9 @@ fn cost_row(table: &Table, index: usize, window: u64) -> Vec<u64> {
     lengths.map(|d| cost(entries, arrivals(head, d))).collect()
 }
 
-/// Shortcut 3: E of e at a(A + 1) never falls as A grows, so a length that is too short for one
-/// offset is too short for every later one. The search for F(A + 1) therefore begins at F(A), and
-/// where an offset has no length up to W, no later one has.
+/// Shortcut 3: the callback's own cost, E(a(A + 1)), never falls as A grows, so a length that is
+/// too short for one offset is too short for every later one. The search for F(A + 1) therefore
+/// begins at F(A), and where an offset has no length up to W, no later one has.
 fn bound_by_rows(supplied: &[u64], own: &[u64], all: &[u64]) -> u64 {
     let (mut bound, mut length) = (0, 1);
     for offset in 0..supplied.len() - 1 {
@@ -141,8 +143,8 @@ fn bound_by_rows(supplied: &[u64], own: &[u64], all: &[u64]) -> u64 {
     bound
 }
 
-/// "The analyser writes bounds 1 to n into a lent row of sixteen-bit numbers and touches no place
-/// beyond n. It returns W." Total.
+/// 'The sheet', analyser: gives W, with the bound of callback i in the i-th place of `row` and the
+/// places after n kept. A refusal keeps the whole row. Total.
 pub fn analyse(bytes: &[u8], row: &mut [u16]) -> Result<u64, Refusal> {
     if row.len() < MOST_CALLBACKS {
         return Err(refusal(17, 0));
@@ -159,7 +161,7 @@ pub fn analyse(bytes: &[u8], row: &mut [u16]) -> Result<u64, Refusal> {
     Ok(window)
 }
 
-/// "a(W) above 255 (lowest such head)"
+/// Refusal 16: the lowest head with more than 255 arrivals in the window, if there is one.
 fn crowded_head(table: &Table, window: u64) -> Option<usize> {
     (1..=table.count()).find(|&i| table.is_head(i) && arrivals(table.callback(i), window) > 255)
 }

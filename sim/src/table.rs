@@ -1,4 +1,5 @@
-//! The callback table: its values, its bytes and its reader (refusals 1 to 14).
+//! The callback table: its values, its bytes and its reader (refusals 1 to 14). Sections in quotes
+//! are document 01's.
 
 pub const MOST_CALLBACKS: usize = 16;
 pub const LARGEST: u64 = 60_000;
@@ -6,14 +7,15 @@ pub const HEADER_BYTES: usize = 16;
 pub const RECORD_BYTES: usize = 32;
 pub const MOST_ENTRIES: usize = 8;
 
-/// "With the number goes a callback index, 0 where none is said."
+/// 'Where each refusal is tested': the number of a row, and the callback that it gives as index, 0
+/// for a row that gives none.
 #[derive(Clone, Copy, Debug, PartialEq, Eq, PartialOrd, Ord)]
 pub struct Refusal {
     pub number: u8,
     pub index: u8,
 }
 
-/// "byte 0 kind (1 timer, 2 subscription, 3 service, 4 client)"
+/// 'The callback table', record: the kinds, each with its number in byte 0.
 #[derive(Clone, Copy, Debug, PartialEq, Eq, PartialOrd, Ord)]
 pub enum Kind {
     Timer = 1,
@@ -43,17 +45,18 @@ pub struct Table {
 }
 
 impl Table {
-    /// "count n, 1 to 16"
+    /// The n of the header; 1 to 16 in a table that the reader takes.
     pub fn count(&self) -> usize {
         self.callbacks.len()
     }
 
-    /// "n records of 32 bytes, callbacks 1 to n" (the index must be 1 to n)
+    /// The record of callback `index`, counted from 1. (the index must be 1 to n)
     pub fn callback(&self, index: usize) -> &Callback {
         &self.callbacks[index - 1]
     }
 
-    /// "horizon H, at most 60,000, where 0 means 60,000"
+    /// 'The callback table', header: the longest length that can be the window. It is H as written,
+    /// or 60,000, the largest H, for a written 0.
     pub fn longest_window(&self) -> u64 {
         match self.horizon {
             0 => LARGEST,
@@ -61,13 +64,14 @@ impl Table {
         }
     }
 
-    /// "A head is a callback that no record names as next."
+    /// 'The callback table': whether the index is in no next field, so that only a mask activates
+    /// the callback. False for an index that is not 1 to n.
     pub fn is_head(&self, index: usize) -> bool {
         (1..=self.count()).contains(&index) && self.names_of(index) == 0
     }
 
-    /// "The head of a callback's chain is the head from which next leads to it, in any number of
-    /// steps; a head's is itself." (n steps back are enough, and end the walk on a loop too)
+    /// 'A history', head of a chain: the callback that begins the chain of `index`; a head gives
+    /// itself. (n steps back are enough, and end the walk on a loop too)
     pub fn head_of(&self, index: usize) -> usize {
         let mut here = index;
         for _ in 0..self.count() {
@@ -89,7 +93,7 @@ impl Table {
         self.callbacks.iter().filter(|c| c.next == index).count()
     }
 
-    /// "on a loop": next leads from the callback back to itself.
+    /// Refusal 13: whether next, followed from the callback, comes back to it.
     fn on_loop(&self, index: usize) -> bool {
         let mut here = index;
         for _ in 0..self.count() {
@@ -113,7 +117,7 @@ pub(crate) fn refusal(number: u8, index: usize) -> Refusal {
     }
 }
 
-/// "Fields are unsigned and little-endian."
+/// 'The callback table': a field of two bytes without sign, low byte first.
 fn word(bytes: &[u8], at: usize) -> u64 {
     u64::from(bytes[at]) + 256 * u64::from(bytes[at + 1])
 }
@@ -127,7 +131,8 @@ fn refuse_if(condition: bool, number: u8, index: usize) -> Result<(), Refusal> {
     }
 }
 
-/// "Top to bottom, first match.": header, each record in turn, links, arrivals. Total.
+/// Refusals 1 to 14: the table, or the first refusal met in header, records, links and arrivals,
+/// where a record goes through all its rows before the next record. Total.
 pub fn read(bytes: &[u8]) -> Result<Table, Refusal> {
     check_header(bytes)?;
     let mut callbacks = Vec::new();
@@ -146,8 +151,8 @@ pub fn read(bytes: &[u8]) -> Result<Table, Refusal> {
     Ok(table)
 }
 
-/// "The header has 16 bytes: byte 0 edition, 1; byte 1 count n, 1 to 16; bytes 2-3 budget Q; 4-5
-/// period P; 6-7 horizon H, at most 60,000, where 0 means 60,000; bytes 8-15 zero."
+/// Refusals 1 to 7, with index 0. 'The callback table', header: edition (1) at byte 0, n (1 to 16)
+/// at 1, Q at 2, P at 4, H (0 is in range) at 6, spare bytes from 8 to 15.
 fn check_header(bytes: &[u8]) -> Result<(), Refusal> {
     refuse_if(bytes.len() < HEADER_BYTES, 1, 0)?;
     refuse_if(bytes[0] != 1, 2, 0)?;
@@ -160,9 +165,9 @@ fn check_header(bytes: &[u8]) -> Result<(), Refusal> {
     refuse_if(horizon > LARGEST, 7, 0)
 }
 
-/// "Record: byte 0 kind [..]; byte 1 next [..]; byte 2 m, the number of cost entries, 1 to 8; byte
-/// 3 zero; bytes 4-5 T; 6-7 J; 8-9 d; 10-11 zero; 12-27 eight two-byte entries E(1) to E(8), zero
-/// beyond m; 28-31 zero."
+/// Refusals 8, 9, 10 and 5 of one record. 'The callback table', record: kind at byte 0, next at 1,
+/// m (1 to 8) at 2, T at 4, J at 6, d at 8, and from 12 on room for eight cost entries. What lies
+/// beyond entry m, and each spare byte, has to be 0.
 fn read_record(record: &[u8], index: usize, count: usize) -> Result<Callback, Refusal> {
     let kind = kind_of(record[0]).ok_or(refusal(8, index))?;
     let next = usize::from(record[1]);
@@ -187,7 +192,7 @@ fn read_record(record: &[u8], index: usize, count: usize) -> Result<Callback, Re
     })
 }
 
-/// "kind (1 timer, 2 subscription, 3 service, 4 client)"
+/// The kind with this number; none for a number that is not 1 to 4 (refusal 8).
 fn kind_of(byte: u8) -> Option<Kind> {
     match byte {
         1 => Some(Kind::Timer),
@@ -198,12 +203,13 @@ fn kind_of(byte: u8) -> Option<Kind> {
     }
 }
 
-/// "Entries rise strictly and lie in 1 to 60,000."
+/// 'Curves', cost: whether the used entries are strictly increasing and in range, 1 to 60,000.
 fn entries_by_the_rules(entries: &[u64]) -> bool {
     entries.iter().all(|e| (1..=LARGEST).contains(e)) && entries.windows(2).all(|p| p[0] < p[1])
 }
 
-/// "No callback is named twice, a timer is never named, and there are no loops."
+/// Refusals 11, 12 and 13, each over all callbacks before the next one: the lowest callback in more
+/// than one next field, the lowest timer in any, the lowest callback on a loop.
 fn check_links(table: &Table) -> Result<(), Refusal> {
     for index in 1..=table.count() {
         refuse_if(table.names_of(index) >= 2, 11, index)?;
@@ -218,7 +224,8 @@ fn check_links(table: &Table) -> Result<(), Refusal> {
     Ok(())
 }
 
-/// "head: T or J above 60,000, T zero, d not 1 to T; follower: any not zero (lowest such)"
+/// Refusal 14, with the lowest callback at fault: a head needs T in 1 to 60,000, J up to 60,000 and
+/// d in 1 to T; a follower has no arrivals of its own, and needs 0 in all three.
 fn check_arrivals(table: &Table) -> Result<(), Refusal> {
     for index in 1..=table.count() {
         let c = table.callback(index);
@@ -249,7 +256,7 @@ pub fn encode(table: &Table) -> Vec<u8> {
     bytes
 }
 
-/// "Then come n records of 32 bytes, callbacks 1 to n."
+/// 'The callback table', record: the 32 bytes of one callback, 0 where it has no value.
 fn encode_record(callback: &Callback) -> Vec<u8> {
     let kind = callback.kind as u8;
     let mut record = vec![kind, callback.next as u8, callback.entries.len() as u8, 0];

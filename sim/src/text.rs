@@ -141,7 +141,7 @@ pub fn script_text(script: &Script) -> String {
     hex(&script.table) + "\n" + &rows.collect::<String>()
 }
 
-/// "`refused`, number, index, parted by single spaces"
+/// Document 01, P6: the line of a refusal, its three parts one space apart.
 pub fn refusal_text(refusal: &Refusal) -> String {
     format!("refused {} {}", refusal.number, refusal.index)
 }

@@ -1,4 +1,5 @@
-//! The words of a history, the curves' conditions and demand 3.
+//! Activations, starts and completions, the conditions of the curves, and
+//! demand 3.
 
 mod common;
 use common::*;
@@ -36,8 +37,8 @@ fn words_of_a_chain() {
     assert_eq!(longest_response(&chain(), 3, &history), 5);
 }
 
-/// "A refused tick would keep its place in the list and hand back what it
-/// got."
+/// Document 01, 'A history': a refused tick is counted in the times of all
+/// later ones and leaves the state as it was.
 #[test]
 fn refused_tick_keeps_its_place() {
     let history = played(&chain(), &[tick(1, 0), tick(1, 1)]);

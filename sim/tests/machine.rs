@@ -32,8 +32,9 @@ fn refused(state: &State, tick: Tick) -> Option<Refusal> {
     refusal
 }
 
-/// "A refused start gives a state that is zero throughout and has no
-/// callbacks; every tick on it is refused with 29."
+/// Document 01, 'One tick of the machine', start: refused bytes leave a state
+/// of zeros without a table, on which 29 comes before every other refusal of a
+/// tick.
 #[test]
 fn refused_start() {
     let mut bytes = encode(&chain());
@@ -62,7 +63,8 @@ fn unsupplied_tick_only_takes_arrivals() {
     assert_eq!((held.state.units, held.state.running), (1, 1));
 }
 
-/// "activates next at that time": a follower starts in the next tick.
+/// Document 01, step 4: a follower can start in the tick after the finish that
+/// activates it.
 #[test]
 fn chain_runs_through() {
     let mut state = fresh(&chain());
@@ -91,7 +93,8 @@ fn chain_runs_through() {
     );
 }
 
-/// "Priority goes by kind number, then by index"
+/// Document 01, 'The callback table', priority: the kinds in the order of their
+/// numbers, callbacks of one kind in the order of their indices.
 #[test]
 fn priority() {
     let kinds = [
@@ -217,7 +220,8 @@ fn refusal_21_for_heads() {
     assert_eq!(refused(&state, tick(0, 1)), None);
 }
 
-/// "or a next that this tick would activate has 255"
+/// Refusal 21 of a follower with 255 waiting: only in a tick that would finish
+/// the callback before it.
 #[test]
 fn refusal_21_for_followers() {
     let mut table = full(vec![

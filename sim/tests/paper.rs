@@ -94,7 +94,8 @@ fn p10_polling_points() {
     assert_eq!(polls, [(0, 2), (4, 1), (6, 0)]);
 }
 
-/// "Taking F at offset 0 only: P4 would give 4." With the one offset of a window of 4 it does.
+/// Document 01, 'Readings that tempt', offset 0 only: P4's bound would be 4, as with a window of 4,
+/// where no later offset has a longer response.
 #[test]
 fn p4_at_offset_0_only() {
     let table = full(vec![p2(&[4])]);
@@ -102,7 +103,8 @@ fn p4_at_offset_0_only() {
     assert_eq!(sim::sheet::bound_literal(&table, 1, 12), 7);
 }
 
-/// "Letting J into a(0), or holding E at its last entry."
+/// Document 01, 'Readings that tempt', curves: J does not count in a window of no ticks, and costs
+/// grow beyond the last entry.
 #[test]
 fn tempting_curves() {
     assert_eq!(arrivals(&p2(&[4]), 0), 0);

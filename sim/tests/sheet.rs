@@ -13,8 +13,7 @@ fn demand(table: &Table, index: usize, length: u64) -> u64 {
     cost(&table.callback(index).entries, arrivals(head, length))
 }
 
-/// "F(A) is the least positive D with s(D) at least E of e at a(A + 1), plus the sum over all
-/// other callbacks of E(a(D))", with no end to the search.
+/// F(A) of document 01, 'The sheet', for A = `offset`, with no end to the search.
 fn finish(table: &Table, index: usize, offset: u64) -> u64 {
     let needed = |length| -> u64 {
         let others = (1..=table.count()).filter(|&other| other != index);
@@ -45,7 +44,7 @@ fn faster_searches_agree_with_the_literal_ones() {
     }
 }
 
-/// "F(A) is never above W."
+/// Document 01, 'The sheet': every F(A) is a length in 1 to W.
 #[test]
 fn finish_does_not_fall_and_stays_within_the_window() {
     let mut random = Random::new(4);
@@ -115,7 +114,7 @@ fn sums_need_64_bits() {
     assert_eq!(supply(1, 60_000, 119_999), 1);
 }
 
-/// "a for a follower is that of its chain's head."
+/// Document 01, 'The sheet': followers have the head's arrivals, and bounds from its activation.
 #[test]
 fn chain_is_measured_from_its_head() {
     assert_eq!(sheet(&chain()), Ok((6, vec![6, 6, 6])));

@@ -1,2 +1,2 @@
--- Reply: number and values of each answer and reply.
-pub mod Reply
+-- Outcome: number and values of each answer and refusal, and the reply made of them.
+pub mod Outcome

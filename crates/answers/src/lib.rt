@@ -1,11 +1,12 @@
-// The answers of a tick and its reply (document 01, 'One tick of the machine'), and what a reply says:
-// the number of its answer, the callback and the instance that it names, and its refusal.
+// What a tick comes to (document 01, 'One tick of the machine'): one of four answers, or a refusal; and the reply that a host gets of it,
+// in numbers.
 
 ghost use mathlib.Core.Path.{_≡_};
+ghost use mathlib.Core.Bool.{Bool};
 ghost use Prim.Native.Nat.{ℕ};
-ghost use Rattle.answers.specs.Reply.{answerNumber, answerCallback, answerInstance, answerFinished, numberOf, callbackOf, instanceOf, finishedOf, refusalOf};
+ghost use Rattle.answers.specs.Outcome.{finishedOf, flag, replyOf};
 
-// "The tick answers with one of four": callback index and instance number, both from 1.
+// The four answers; those that name a callback say its index and the instance, both from 1.
 pub enum Answer {
     NoSupply,
     Idle,
@@ -13,113 +14,90 @@ pub enum Answer {
     Finished(u8, u32),
 }
 
-// A refused tick gives none of the four.
-pub enum Reply {
+// A tick is refused, or answered.
+pub enum Outcome {
     Refused(table::Refusal),
     Answered(Answer),
 }
 
-impl Answer {
-    // 1 no supply, 2 idle, 3 ran, 4 finished.
-    pub(crate) fn number(self) -> u8
-        ensures { λ r. ⌜ r ≡ answerNumber self ⌝ }
-    {
-        match self {
-            Answer::NoSupply => 1,
-            Answer::Idle => 2,
-            Answer::Ran(_, _) => 3,
-            Answer::Finished(_, _) => 4,
-        }
-    }
-
-    // The callback named, an index from 1; 0 where none is.
-    pub(crate) fn callback(self) -> u8
-        ensures { λ r. ⌜ r ≡ answerCallback self ⌝ }
-    {
-        match self {
-            Answer::NoSupply => 0,
-            Answer::Idle => 0,
-            Answer::Ran(i, _) => i,
-            Answer::Finished(i, _) => i,
-        }
-    }
-
-    // The instance named, from 1; 0 where none is.
-    pub(crate) fn instance(self) -> u32
-        ensures { λ r. ⌜ r ≡ answerInstance self ⌝ }
-    {
-        match self {
-            Answer::NoSupply => 0,
-            Answer::Idle => 0,
-            Answer::Ran(_, k) => k,
-            Answer::Finished(_, k) => k,
-        }
-    }
-
-    // The callback whose instance finished, an index from 1; 0 where none did.
-    pub(crate) fn finished(self) -> u8
-        ensures { λ r. ⌜ r ≡ answerFinished self ⌝ }
-    {
-        match self {
-            Answer::NoSupply => 0,
-            Answer::Idle => 0,
-            Answer::Ran(_, _) => 0,
-            Answer::Finished(i, _) => i,
-        }
-    }
+// The reply of a tick: the refusal's number and index, the answer (0 refused, 1 no supply, 2 idle, 3 ran, 4 finished) with
+// its callback and instance, and whether one started, whether a polling point fell here, and how many the poll took.
+#[repr(C)]
+pub struct Reply {
+    pub instance: u32,
+    pub number: u8,
+    pub index: u8,
+    pub answer: u8,
+    pub callback: u8,
+    pub started: u8,
+    pub polled: u8,
+    pub gathered: u8,
 }
 
-impl Reply {
-    // The answer's number, 0 where the tick is refused.
-    pub fn number(self) -> u8
-        ensures { λ r. ⌜ r ≡ numberOf self ⌝ }
-    {
-        match self {
-            Reply::Refused(_) => 0,
-            Reply::Answered(a) => a.number(),
-        }
+// 1 or 0.
+fn flagged(b: bool) -> u8
+    ensures { λ r. ⌜ r ≡ flag b ⌝ }
+{
+    if b {
+        return 1;
     }
+    0
+}
 
-    // The callback that the answer names, 0 where none is.
-    pub fn callback(self) -> u8
-        ensures { λ r. ⌜ r ≡ callbackOf self ⌝ }
-    {
-        match self {
-            Reply::Refused(_) => 0,
-            Reply::Answered(a) => a.callback(),
-        }
-    }
-
-    // The instance that the answer names, 0 where none is.
-    pub fn instance(self) -> u32
-        ensures { λ r. ⌜ r ≡ instanceOf self ⌝ }
-    {
-        match self {
-            Reply::Refused(_) => 0,
-            Reply::Answered(a) => a.instance(),
-        }
-    }
-
-    // The callback whose instance finished, 0 where none did.
+impl Outcome {
+    // The callback whose instance finished, an index from 1; 0 where none did.
     pub fn finished(self) -> u8
         ensures { λ r. ⌜ r ≡ finishedOf self ⌝ }
     {
         match self {
-            Reply::Refused(_) => 0,
-            Reply::Answered(a) => a.finished(),
+            Outcome::Refused(_) => 0,
+            Outcome::Answered(a) => match a {
+                Answer::NoSupply => 0,
+                Answer::Idle => 0,
+                Answer::Ran(_, _) => 0,
+                Answer::Finished(i, _) => i,
+            },
         }
     }
 
-    // The refusal, number 0 where the tick is answered.
-    pub fn refusal(self) -> table::Refusal
-        ensures { λ r. ⌜ r ≡ refusalOf self ⌝ }
+    // The reply, with what stands beside the outcome.
+    pub fn reply(self, started: bool, polled: bool, gathered: u8) -> Reply
+        ensures { λ r. ⌜ r ≡ replyOf self started polled gathered ⌝ }
     {
+        let mut r = Reply {
+            instance: 0,
+            number: 0,
+            index: 0,
+            answer: 0,
+            callback: 0,
+            started: flagged(started),
+            polled: flagged(polled),
+            gathered: gathered,
+        };
         match self {
-            Reply::Refused(r) => r,
-            Reply::Answered(_) => table::Refusal {
-                number: 0,
-                index: 0,
+            Outcome::Refused(why) => {
+                r.number = why.number;
+                r.index = why.index;
+            }
+            Outcome::Answered(a) => match a {
+                Answer::NoSupply => {
+                    r.answer = 1;
+                }
+                Answer::Idle => {
+                    r.answer = 2;
+                }
+                Answer::Ran(i, k) => {
+                    r.answer = 3;
+                    r.callback = i;
+                    r.instance = k;
+                }
+                Answer::Finished(i, k) => {
+                    r.answer = 4;
+                    r.callback = i;
+                    r.instance = k;
+                }
             },
         }
+        r
     }
 }

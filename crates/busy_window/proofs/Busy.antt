@@ -16,10 +16,10 @@ use Prim.Native.Nat.{ℕ, zero, suc, _+_, _-_, _≤_, _<_}
 use native.Mathlib.Nat.{le-refl, le-of-lt, add-zero, add-suc, eq-or-lt-of-le}
 use native.Mathlib.Decide.{ℕ-discrete}
 use native.Mathlib.Omega.{arith}
-use Rattle.curves.specs.Sum.{sum}
+use Rattle.ranges.specs.Sum.{sum}
 use Rattle.curves.specs.Demand.{demand, limit}
 use Rattle.curves.specs.Parts.{Rising}
-use Rattle.curves.proofs.SumLaws.{sum-lt, sum-add, le-or-lt, all-or-one, mono-upto}
+use Rattle.ranges.proofs.SumLaws.{sum-lt, sum-add, le-or-lt, all-or-one, mono-upto}
 use Rattle.curves.proofs.DemandLaws.{limit-own, limit-other}
 use Rattle.busy_window.specs.Counts.{Counts, Quiet, Open, Busy, LastQuiet}
 use Rattle.busy_window.specs.Run.{Run}

@@ -11,8 +11,8 @@ use native.Mathlib.Nat.{le-refl, zero-add, add-zero, eq-or-lt-of-le}
 use native.Mathlib.Decide.{ℕ-discrete}
 use native.Mathlib.Omega.{arith}
 use lib.Dec.{T}
-use Rattle.curves.specs.Sum.{sum, given}
-use Rattle.curves.proofs.SumLaws.{sum-none}
+use Rattle.ranges.specs.Sum.{sum, given}
+use Rattle.ranges.proofs.SumLaws.{sum-none}
 use Rattle.busy_window.specs.Flow.{fed}
 use Rattle.busy_window.specs.Chain.{Chains}
 

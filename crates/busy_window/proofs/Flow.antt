@@ -15,8 +15,8 @@ use Prim.Native.Nat.{ℕ, zero, suc, _+_, _*_, _≤_, _<_}
 use native.Mathlib.Nat.{le-refl}
 use native.Mathlib.Omega.{arith}
 use lib.Dec.{T}
-use Rattle.curves.specs.Sum.{sum, given}
-use Rattle.curves.proofs.SumLaws.{sum-le, sum-add, le-or-lt, all-or-one}
+use Rattle.ranges.specs.Sum.{sum, given}
+use Rattle.ranges.proofs.SumLaws.{sum-le, sum-add, le-or-lt, all-or-one}
 use Rattle.busy_window.specs.Counts.{Quiet, Busy}
 use Rattle.busy_window.specs.Run.{Run}
 use Rattle.busy_window.specs.Flow.{Events, States, Local, fed, counts}

@@ -5,7 +5,7 @@
 use mathlib.Core.Path.{_≡_}
 use mathlib.Core.Bool.{Bool}
 use Prim.Native.Nat.{ℕ, suc, _+_, _*_, _≤_, _<_}
-use Rattle.curves.specs.Sum.{sum, given}
+use Rattle.ranges.specs.Sum.{sum, given}
 use Rattle.busy_window.specs.Counts.{Counts}
 
 -- what tick t and its answer say, of callback i and of the tick

@@ -1,7 +1,7 @@
 -- What the argument asks of an executor, and all that it asks. No field speaks of priorities, polling or chains.
 use mathlib.Core.Path.{_≡_}
 use Prim.Native.Nat.{ℕ, suc, _+_, _≤_, _<_}
-use Rattle.curves.specs.Sum.{sum}
+use Rattle.ranges.specs.Sum.{sum}
 use Rattle.busy_window.specs.Counts.{Counts, Quiet, Busy}
 
 -- N ticks of n callbacks; in a busy window that begins quiet at most b units go to others

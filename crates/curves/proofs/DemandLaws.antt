@@ -6,7 +6,7 @@ use native.Mathlib.Nat.{le-refl, le-of-lt}
 use borrow.Author.Tests.{eq-eqb, ne-eqb}
 use Rattle.curves.specs.Demand.{demand, limit}
 use Rattle.curves.specs.Parts.{Rising}
-use Rattle.curves.proofs.SumLaws.{sum-le, mono-upto}
+use Rattle.ranges.proofs.SumLaws.{sum-le, mono-upto}
 
 pub limit-own : (a : ℕ → ℕ → ℕ) (x A D : ℕ) → limit a x A D x ≡ a x (suc A)
 unfolding limit

@@ -1,8 +1,4 @@
 -- Laws of the definitions in specs, one file for each of its modules.
-pub mod SumLaws
-pub mod LeastLaws
-pub mod EveryLaws
-pub mod WalkLaws
 pub mod ArrivalsLaws
 pub mod CostLaws
 pub mod SupplyLaws

@@ -2,7 +2,7 @@
 use mathlib.Core.Bool.{true, false}
 use Prim.Native.Nat.{ℕ, suc}
 use lib.Dec.{eqb}
-use Rattle.curves.specs.Sum.{sum}
+use Rattle.ranges.specs.Sum.{sum}
 
 -- the cost of m i instances of each callback i
 abbrev pub demand : ℕ → (ℕ → ℕ → ℕ) → (ℕ → ℕ) → ℕ

@@ -1,19 +1,16 @@
--- What the functions and laws of the curves ask. maxTicks, maxLength: how large numbers may be. RisingEntries: of cost entries.
+-- What the functions and laws of the curves ask. maxLength: the longest window. RisingEntries: of cost entries.
 -- Rising: of the curves of several callbacks.
 use mathlib.Core.List.{List}
 use Prim.Native.Nat.{ℕ, suc, _*_, _≤_, _<_}
 use lib.ListN.{length}
+use Rattle.numbers.specs.Numbers.{longest}
 use Rattle.curves.specs.Cost.{entry}
-
--- "at most 60,000": of P, H, T and J, and of a cost, in ticks
-abbrev pub maxTicks : ℕ
-maxTicks = 60000
 
 -- the longest window that a curve is asked for, twice the longest horizon
 abbrev pub maxLength : ℕ
-maxLength = 2 * maxTicks
+maxLength = 2 * longest
 
--- "Entries rise strictly", the first from 0: so each is at least 1
+-- each entry above the one before it, the first above 0: so each is at least 1
 abbrev pub RisingEntries : List ℕ → Type 0
 RisingEntries es = (k : ℕ) → k < length es → entry es k < entry es (suc k)
 

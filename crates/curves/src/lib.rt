@@ -3,14 +3,15 @@
 ghost use mathlib.Core.Path.{_≡_};
 ghost use Prim.Native.Nat.{ℕ, _<_, _≤_, _*_};
 ghost use lib.ListN.{take};
-ghost use Rattle.curves.specs.Parts.{maxTicks, maxLength};
+ghost use Rattle.numbers.specs.Numbers.{longest};
+ghost use Rattle.curves.specs.Parts.{maxLength};
 ghost use Rattle.curves.specs.Arrivals.{arrivals as arrivalsOf};
 ghost use Rattle.curves.specs.Cost.{cost as costOf};
 ghost use Rattle.curves.specs.Supply.{supply as supplyOf};
 
 // a(length): the activations of a head in any window of that many ticks, at most; 0 for no ticks, whatever the jitter.
 pub fn arrivals(period: u32, jitter: u32, distance: u32, length: u32) -> u32
-    requires { ⌜ (0 < period) × (period ≤ maxTicks) × (jitter ≤ maxTicks) × (0 < distance) × (distance ≤ maxTicks) × (length ≤ maxLength) ⌝ }
+    requires { ⌜ (0 < period) × (period ≤ longest) × (jitter ≤ longest) × (0 < distance) × (distance ≤ longest) × (length ≤ maxLength) ⌝ }
     ensures { λ r. ⌜ (r ≡ arrivalsOf period jitter distance length) × (r ≤ length) ⌝ }
 {
     if length == 0 {
@@ -41,7 +42,7 @@ pub fn cost(entries: [u16; 8], used: u8, count: u32) -> u64
 
 // s(length): the supplied ticks of any window of that many ticks, at least.
 pub fn supply(budget: u32, period: u32, length: u32) -> u64
-    requires { ⌜ (0 < budget) × (budget ≤ period) × (period ≤ maxTicks) × (length ≤ maxLength) ⌝ }
+    requires { ⌜ (0 < budget) × (budget ≤ period) × (period ≤ longest) × (length ≤ maxLength) ⌝ }
     ensures { λ r. ⌜ (r ≡ supplyOf budget period length) × (r ≤ length) ⌝ }
 {
     let q = budget as u64;

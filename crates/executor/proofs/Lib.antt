@@ -1,10 +1,11 @@
--- What the functions rest on.
--- WorkLaws: step 4 by index. EffectLaws: the steps put together. FaultLaws: the faults of number 29. FullLaws: refusals 20 and 21.
--- ReadyLaws: what a state without faults gives. TickLaws: the refusals in their order. StartLaws: every tick after a refused start.
-pub mod WorkLaws
-pub mod EffectLaws
+-- ValidLaws: a state without faults. Cases: one tick case by case. Steps: what a tick does to counts, turns and units.
+-- FaultLaws, EffectLaws, TickLaws: what the functions of a tick find, step by step and refusal by refusal. TickCases: a tick
+-- has its effect, or is refused and keeps its state. StartLaws: a start.
+pub mod ValidLaws
+pub mod Cases
+pub mod Steps
 pub mod FaultLaws
-pub mod FullLaws
-pub mod ReadyLaws
-pub mod TickLaws
+pub mod EffectLaws
 pub mod StartLaws
+pub mod TickLaws
+pub mod TickCases

@@ -1,64 +1,56 @@
--- What the functions inside a tick ask and give. Workable, Ready: what they ask of a state. finishedBy, continuedBy, workedBy, idled: step 4,
--- and a tick in which nobody is chosen. admitted: the tick past the refusals 29 to 20.
-use Prim.Native.Nat.{ℕ, suc, _+_, _-_, _≤_, _<_, zero}
+-- What the functions inside a tick ask and give. Valid: a state without faults, the limit of 255 aside; Room: that limit, or another one.
+-- Admissible: what the steps ask. Completes, completedBy: a completion. admitted: the tick past the refusals 29, 18, 19 and 20.
+use Prim.Native.Nat.{ℕ, zero, suc, _+_, _≤_, _<_}
 use mathlib.Core.Path.{_≡_}
-use mathlib.Core.List.{List}
 use mathlib.Core.Bool.{Bool, true, false}
+use lib.ListN.{length}
 use Rattle.masks.specs.Mask.{has}
-use Rattle.table.specs.Numbers.{places}
+use Rattle.numbers.specs.Numbers.{places, mostTicks, mostWaiting, longest, queueFull}
 use Rattle.table.specs.Values.{nextOf, refuse}
-use Rattle.answers.specs.declared.Answer.the-variants.{Idle}
-use Rattle.queues.specs.declared.Choice.{Choice}
+use Rattle.queues.specs.Queues.{counted}
+use Rattle.turns.specs.Choosing.{isPolled}
+use Rattle.turns.specs.Parts.{Cached}
+use Rattle.faults.specs.Faults.{tableFault}
 use Rattle.executor.specs.declared.Machine.{Machine}
 use Rattle.executor.specs.declared.Ticked.{Ticked}
-use Rattle.queues.specs.Numbers.{mostTicks, mostWaiting, queueFull}
 use Rattle.executor.specs.State.{waitingOf, finishedAt}
-use Rattle.executor.specs.Effect.{after, answered, finishes, continues, worked, effect}
+use Rattle.executor.specs.Effect.{left, effect}
 use Rattle.executor.specs.Tick.{full, refused}
 
--- the slot of the callback that a choice names
-abbrev pub slotOf : Choice → ℕ
-slotOf x = x .chosen - 1
+-- a state with none of the faults of row 29, the limit of the waiting counts aside
+pub record Valid (m : Machine) : Type 0 where
+  pub table : tableFault (m .table) ≡ false
+  pub sized : (length (m .waiting) ≡ places) × (length (m .finished) ≡ places)
+  pub beyond : (i : ℕ) → m .table .count ≤ i → i < places → (waitingOf m i ≡ 0) × (finishedAt m i ≡ 0)
+  pub cached : Cached (m .table) (m .cache) (m .waiting)
+  pub runner : (i : ℕ) → m .running ≡ suc i → (i < m .table .count) × (0 < waitingOf m i) × (isPolled (m .table) i ≡ true → has (m .cache) i ≡ true)
+  pub measured : (i : ℕ) → m .running ≡ suc i → (1 ≤ m .units) × (m .units ≤ longest)
+  pub rest : m .running ≡ 0 → m .units ≡ 0
+  pub early : (i : ℕ) → i < places → finishedAt m i ≤ m .clock
 
--- step 4 for that callback: the last unit, a unit that is not the last, either
-abbrev pub finishedBy : Machine → Choice → Bool → Ticked
-finishedBy m x started = finishes m (m .waiting) (x .cache) (slotOf x) started (x .polled) (x .gathered)
+-- no waiting count is above `most`
+abbrev pub Room : ℕ → Machine → Type 0
+Room most m = (i : ℕ) → i < places → waitingOf m i ≤ most
 
-abbrev pub continuedBy : Machine → Choice → ℕ → Bool → Ticked
-continuedBy m x u started = continues m (m .waiting) (x .cache) (slotOf x) u started (x .polled) (x .gathered)
-
-abbrev pub workedBy : Machine → Choice → ℕ → Bool → Ticked
-workedBy m x u started = worked m (m .waiting) (x .cache) (slotOf x) u started (x .polled) (x .gathered)
-
--- what step 4 asks: somebody is named who waits, and the counts have room for one more
-pub record Workable (m : Machine) (x : Choice) : Type 0 where
-  pub named : 0 < x .chosen
-  pub inside : x .chosen ≤ places
-  pub waits : 0 < waitingOf m (slotOf x)
-  pub room : (i : ℕ) → i < places → waitingOf m i ≤ mostWaiting + 1
-  pub counted : finishedAt m (slotOf x) < mostTicks
-  pub linked : nextOf (m .table) (slotOf x) ≤ places
+-- what steps 1 to 4 ask of a state and the tick's cost
+pub record Admissible (most : ℕ) (m : Machine) (cost : ℕ) : Type 0 where
+  pub valid : Valid m
+  pub room : Room most m
   pub early : m .clock < mostTicks
+  pub priced : (1 ≤ cost) × (cost ≤ longest)
 
--- the state with other waiting counts
-abbrev pub withWaiting : Machine → List ℕ → Machine
-withWaiting m ws =
-    record { table = m .table; waiting = ws; finished = m .finished; cache = m .cache; running = m .running; units = m .units; clock = m .clock }
+-- what a completion of the callback of an index asks: it waits, and the counts have room for one more
+pub record Completes (m : Machine) (i : ℕ) : Type 0 where
+  pub inside : i < places
+  pub waits : 0 < waitingOf m i
+  pub room : Room (mostWaiting + 1) m
+  pub counted : finishedAt m i < mostTicks
+  pub linked : nextOf (m .table) i ≤ places
 
--- a tick in which nobody is chosen
-abbrev pub idled : Machine → Choice → Ticked
-idled m x = answered (after m (m .waiting) (m .finished) (x .cache) 0 0) Idle false (x .polled) (x .gathered)
-
--- what steps 1 to 4 ask of a state, and what one without faults gives: no waiting count is above `most`
-pub record Ready (most : ℕ) (m : Machine) : Type 0 where
-  pub counted : m .table .count ≤ places
-  pub linked : (i : ℕ) → i < m .table .count → nextOf (m .table) i ≤ places
-  pub room : (i : ℕ) → i < places → waitingOf m i ≤ most
-  pub early : m .clock < mostTicks
-  pub done : (i : ℕ) → i < places → finishedAt m i < mostTicks
-  pub runner : (i : ℕ) → m .running ≡ suc i → (i < m .table .count) × (0 < waitingOf m i)
-  pub measured : (i : ℕ) → m .running ≡ suc i → 0 < m .units
-  pub cached : (i : ℕ) → i < m .table .count → has (m .cache) i ≡ true → 0 < waitingOf m i
+-- the state with the counts of that completion; index 0 is nobody's
+unfoldable pub completedBy : Machine → ℕ → Machine
+completedBy m f =
+    record { table = m .table; waiting = left (m .table) f (m .waiting); finished = counted f (m .finished); cache = m .cache; running = m .running; units = m .units; clock = m .clock }
 
 -- refusal 21, or the effect
 unfoldable pub admitted : Machine → ℕ → Bool → ℕ → Ticked

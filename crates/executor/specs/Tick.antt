@@ -1,58 +1,47 @@
 -- The tick: the first refusal that applies, 29, 18, 19, 20, 21, or the effect.
-use mathlib.Core.Bool.{Bool, true, false, not, _&&_}
-use Prim.Native.Nat.{ℕ, zero, suc}
-use lib.Dec.{eqb, ltb, leb}
-use Rattle.masks.specs.Mask.{has}
-use Rattle.curves.specs.Least.{lowest}
+use mathlib.Core.Bool.{Bool, true, false}
+use Prim.Native.Nat.{ℕ}
+use lib.Dec.{eqb, leb}
 use Rattle.table.specs.declared.Refusal.{Refusal}
 use Rattle.table.specs.declared.Table.{Table}
-use Rattle.table.specs.Numbers.{places}
-use Rattle.table.specs.Values.{refuse, accepted, nextOf}
-use Rattle.table.specs.Links.{isHead}
-use Rattle.reader.specs.Rules.{within, lowestRefused}
+use Rattle.table.specs.Values.{refuse, accepted, lowestRefused}
+use Rattle.table.specs.Links.{nextAfter, foreign}
 use Rattle.executor.specs.declared.Machine.{Machine}
-use Rattle.answers.specs.declared.Reply.{Reply}
-use Rattle.answers.specs.declared.Reply.the-variants.{Refused}
+use Rattle.answers.specs.declared.Outcome.{Outcome}
+use Rattle.answers.specs.declared.Outcome.the-variants.{Refused}
 use Rattle.executor.specs.declared.Ticked.{Ticked}
-use Rattle.queues.specs.Numbers
+use Rattle.numbers.specs.Numbers
 use Rattle.queues.specs.Queues.{fullWith}
-use Rattle.answers.specs.Reply.{finishedOf}
+use Rattle.answers.specs.Outcome.{finishedOf}
 use Rattle.executor.specs.State.{faulty}
 use Rattle.executor.specs.Effect.{effect}
-
--- 20: "a bit set in the mask belongs to no head of the table (lowest such bit, plus 1)"
-unfoldable pub foreign : Table → ℕ → ℕ
-foreign t mask = lowest (λ i. has mask i && not (ltb i (t .count) && isHead t i)) places
-
--- next of the callback of an index; 0 where the index is
-unfoldable pub nextAfter : Table → ℕ → ℕ
-nextAfter t x = elim x [ zero ↦ 0 | suc i ↦ nextOf t i ]
+use Rattle.ranges.specs.Every.{within}
 
 -- the callback that a completion activates, an index; 0 where none is
-abbrev pub nextActivated : Table → Reply → ℕ
-nextActivated t r = nextAfter t (finishedOf r)
+abbrev pub nextActivated : Table → Outcome → ℕ
+nextActivated t o = nextAfter t (finishedOf o)
 
--- 21: "a head in the mask has 255 waiting before the tick, or a next that this tick would activate has 255 (lowest such)"
+-- row 21: the lowest full queue, before the tick, among those that its arrivals and its completion would add to
 unfoldable pub full : Machine → ℕ → Bool → ℕ → ℕ
-full m mask supplied cost = fullWith (m .waiting) mask (nextActivated (m .table) ((effect m mask supplied cost) .reply))
+full m mask supplied cost = fullWith (m .waiting) mask (nextActivated (m .table) ((effect m mask supplied cost) .outcome))
 
--- the first refusal that applies, in the order of the page
+-- the first refusal that applies, in the order of the rows
 unfoldable pub tickFault : Machine → ℕ → Bool → ℕ → Refusal
 tickFault m mask supplied cost =
     elim (faulty m) [
       | true ↦ refuse Numbers.faultyState 0
       | false ↦ elim (leb Numbers.mostTicks (m .clock)) [
         | true ↦ refuse Numbers.ticksSpent 0
-        | false ↦ elim (within 1 Numbers.largestCost cost) [
+        | false ↦ elim (within 1 Numbers.longest cost) [
           | false ↦ refuse Numbers.wrongCost 0
           | true ↦ lowestRefused Numbers.notAHead (foreign (m .table) mask) (lowestRefused Numbers.queueFull (full m mask supplied cost) accepted)
         ]
       ]
     ]
 
--- "A refused tick gives none of the four, and beside it no, no and 0"; the state stays
+-- a refused tick: the state stays, and beside the refusal nothing starts, is polled or gathered
 unfoldable pub refused : Machine → Refusal → Ticked
-refused m r = record { machine = m; reply = Refused r; started = false; polled = false; gathered = 0 }
+refused m r = record { machine = m; outcome = Refused r; started = false; polled = false; gathered = 0 }
 
 -- the tick
 unfoldable pub tickOf : Machine → ℕ → Bool → ℕ → Ticked

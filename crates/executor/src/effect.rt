@@ -3,81 +3,125 @@
 use super::Machine;
 use super::Ticked;
 use answers::Answer;
-use answers::Reply;
-use queues::Choice;
-use queues::arrivals::arrive;
-use queues::choosing::choose;
-use queues::choosing::waiting_slots;
+use answers::Outcome;
+use queues::arrivals::complete;
+use table::links::next_after;
+use turns::Step;
+use turns::Turn;
+use turns::steps::step;
+use turns::steps::turn;
 ghost use mathlib.Core.Path.{_≡_};
-ghost use Prim.Native.Nat.{ℕ, _+_, _<_};
-ghost use Rattle.queues.specs.Numbers.{mostTicks, mostWaiting};
-ghost use Rattle.executor.specs.Effect.{served, effect};
-ghost use Rattle.executor.specs.Parts.{Ready, idled};
+ghost use Prim.Native.Nat.{ℕ, suc, _+_, _≤_, _<_};
+ghost use Rattle.numbers.specs.Numbers.{places, mostTicks, mostWaiting};
+ghost use Rattle.answers.specs.declared.Outcome.the-variants.{Answered};
+ghost use Rattle.answers.specs.Outcome.{finishedOf};
+ghost use Rattle.table.specs.Links.{foreign};
+ghost use Rattle.executor.specs.State.{finishedAt};
+ghost use Rattle.executor.specs.Effect.{arrive, unsupplied, instanceAt, ticked, served, effect};
+ghost use Rattle.executor.specs.Parts.{Room, Admissible, Completes, completedBy};
 
 impl Machine {
-    // Nobody is chosen: the tick is idle.
-    fn idle(self, choice: Choice) -> Ticked
-        requires { ⌜ self .clock < mostTicks ⌝ }
-        ensures { λ r. ⌜ r ≡ idled self choice ⌝ }
-    {
-        let mut m = self;
-        m.cache = choice.cache;
-        m.running = 0;
-        m.units = 0;
-        m.clock = m.clock + 1;
-        Ticked {
-            machine: m,
-            reply: Reply::Answered(Answer::Idle),
-            started: false,
-            polled: choice.polled,
-            gathered: choice.gathered,
-        }
-    }
-
-    // Steps 3 and 4, after the arrivals: the running instance works, or one is chosen and starts.
-    fn serve(self, cost: u16) -> Ticked
-        requires { ⌜ (Ready (mostWaiting + 1) self) × (0 < cost) ⌝ }
-        ensures { λ r. ⌜ r ≡ served self (self .waiting) cost ⌝ }
-    {
-        if self.running != 0 {
-            let choice = Choice {
-                chosen: self.running,
-                cache: self.cache,
-                polled: false,
-                gathered: 0,
-            };
-            return self.work(choice, self.units, false);
-        }
-        let t = self.table;
-        let counts = self.waiting;
-        let waits = waiting_slots(counts, t.count);
-        let kinds = table::priority::kinds(t);
-        let choice = choose(kinds, self.cache, waits);
-        if choice.chosen == 0 {
-            return self.idle(choice);
-        }
-        self.work(choice, cost, true)
-    }
-
-    // The whole tick; unsupplied, it ends with the arrivals.
-    pub(crate) fn effect(self, mask: u16, supplied: bool, cost: u16) -> Ticked
-        requires { ⌜ (Ready mostWaiting self) × (0 < cost) ⌝ }
-        ensures { λ r. ⌜ r ≡ effect self mask supplied cost ⌝ }
+    // Step 1: the state with the arrivals of the mask.
+    fn arrive(self, mask: u16) -> Machine
+        requires { ⌜ Room mostWaiting self ⌝ }
+        ensures { λ r. ⌜ r ≡ arrive self mask ⌝ }
     {
         let mut m = self;
         let counts = m.waiting;
-        let arrived = arrive(counts, mask);
+        let arrived = queues::arrivals::arrive(counts, mask);
         m.waiting = arrived;
-        if supplied {
-            return m.serve(cost);
-        }
+        m
+    }
+
+    // Step 2: a tick without supply ends with the arrivals.
+    fn unsupplied(self) -> Ticked
+        requires { ⌜ self .clock < mostTicks ⌝ }
+        ensures { λ r. ⌜ r ≡ unsupplied self ⌝ }
+    {
+        let mut m = self;
         m.clock = m.clock + 1;
         Ticked {
             machine: m,
-            reply: Reply::Answered(Answer::NoSupply),
+            outcome: Outcome::Answered(Answer::NoSupply),
             started: false,
             polled: false,
             gathered: 0,
         }
+    }
+
+    // The instance of the callback of an index that is to run, from 1; 0 where the index is.
+    fn instance(self, index: u8) -> u32
+        requires { ⌜ ((i : ℕ) → index ≡ suc i → (i < places) × (finishedAt self i < mostTicks)) ⌝ }
+        ensures { λ r. ⌜ r ≡ instanceAt self index ⌝ }
+    {
+        if index == 0 {
+            return 0;
+        }
+        self.finished[(index - 1) as usize] + 1
+    }
+
+    // The counts of a completion of the callback of an index; 0 is nobody's.
+    fn completed(self, index: u8) -> Machine
+        requires { ⌜ ((i : ℕ) → index ≡ suc i → Completes self i) ⌝ }
+        ensures { λ r. ⌜ r ≡ completedBy self index ⌝ }
+    {
+        if index == 0 {
+            return self;
+        }
+        let t = self.table;
+        let next = next_after(t, index);
+        let instance = self.instance(index);
+        let slot = index - 1;
+        let mut m = self;
+        let counts = m.waiting;
+        m.waiting = complete(counts, slot, next);
+        m.finished[slot as usize] = instance;
+        m
+    }
+
+    // What the tick gives after step 4.
+    fn after(self, x: Turn, s: Step) -> Ticked
+        requires { ⌜ (self .clock < mostTicks) × ((i : ℕ) → finishedOf (Answered (s .answer)) ≡ suc i → Completes self i) ⌝ }
+        ensures { λ r. ⌜ r ≡ ticked self x s ⌝ }
+    {
+        let answer = s.answer;
+        let outcome = Outcome::Answered(answer);
+        let clock = self.clock + 1;
+        let mut m = self.completed(outcome.finished());
+        m.cache = s.cache;
+        m.running = s.running;
+        m.units = s.units;
+        m.clock = clock;
+        Ticked {
+            machine: m,
+            outcome: outcome,
+            started: x.started,
+            polled: x.polled,
+            gathered: x.gathered,
+        }
+    }
+
+    // Steps 3 and 4.
+    fn serve(self, cost: u16) -> Ticked
+        requires { ⌜ Admissible (mostWaiting + 1) self cost ⌝ }
+        ensures { λ r. ⌜ r ≡ served self cost ⌝ }
+    {
+        let t = self.table;
+        let counts = self.waiting;
+        let x = turn(t, counts, self.cache, self.running, self.units, cost);
+        let s = step(x, self.instance(x.chosen));
+        self.after(x, s)
+    }
+
+    // The whole tick.
+    pub(crate) fn effect(self, mask: u16, supplied: bool, cost: u16) -> Ticked
+        requires { ⌜ (Admissible mostWaiting self cost) × (foreign (self .table) mask ≡ 0) ⌝ }
+        ensures { λ r. ⌜ r ≡ effect self mask supplied cost ⌝ }
+    {
+        let m = self.arrive(mask);
+        if supplied {
+            return m.serve(cost);
+        }
+        m.unsupplied()
     }
 }

@@ -1,12 +1,11 @@
 // The executor as a machine that moves tick by tick (document 01, 'One tick of the machine').
 // starting: a machine from a table's bytes. ticks: one tick, its refusals in their order. state: the faults of a state around its table.
-// effect: steps 1 to 4 put together. work: step 4.
+// effect: steps 1 to 4 put together.
 
 mod effect;
-mod starting;
+pub mod starting;
 mod state;
 mod ticks;
-mod work;
 
 // The state: the table, instances waiting and finished of each callback, the cache, the running callback's index
 // (0 where nothing runs), its units left, and the ticks taken.
@@ -20,11 +19,11 @@ pub struct Machine {
     pub clock: u32,
 }
 
-// What a tick gives: the next state, the reply, and beside it whether one started, whether a polling point fell here,
+// What a tick gives: the next state, the outcome, and beside it whether one started, whether a polling point fell here,
 // and how many callbacks the poll put in the cache.
 pub struct Ticked {
     pub machine: Machine,
-    pub reply: answers::Reply,
+    pub outcome: answers::Outcome,
     pub started: bool,
     pub polled: bool,
     pub gathered: u8,

@@ -1,4 +1,4 @@
-// "A machine is started from a table's bytes and refuses them as the reader does."
+// A machine from a table's bytes.
 
 use super::Machine;
 use super::Started;
@@ -7,8 +7,8 @@ ghost use mathlib.Core.Path.{_≡_};
 ghost use Rattle.executor.specs.State.{fresh};
 ghost use Rattle.executor.specs.Start.{startOf};
 
-// The fresh state of a table.
-fn fresh(t: Table) -> Machine
+// The fresh state of a table: no tick taken, and nothing waits, runs, is cached or has finished.
+pub fn fresh(t: Table) -> Machine
     ensures { λ r. ⌜ r ≡ fresh t ⌝ }
 {
     Machine {

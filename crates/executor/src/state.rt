@@ -1,10 +1,8 @@
-// What number 29 refuses of a state, its table apart.
+// What row 29 of the refusals asks of a state, its table apart.
 
 use super::Machine;
 use faults::run_fault;
-use faults::slot_fault;
-use queues::numbers::PLACES;
-use table::numbers::TIMER;
+use faults::slots_fault;
 ghost use mathlib.Core.Path.{_≡_};
 ghost use mathlib.Core.Bool.{Bool};
 ghost use Rattle.executor.specs.State.{stateFault};
@@ -18,26 +16,8 @@ impl Machine {
         if run_fault(t.count, self.running, self.units) {
             return true;
         }
-        let mut i: u8 = 0;
-        while i < PLACES {
-            let c = t.callbacks[i as usize];
-            let cached = masks::test_slot(self.cache, i as u16);
-            let runs = self.running == i + 1;
-            let waiting = self.waiting[i as usize];
-            let finished = self.finished[i as usize];
-            if slot_fault(
-                i >= t.count,
-                cached,
-                runs,
-                c.kind != TIMER,
-                waiting,
-                finished,
-                self.clock,
-            ) {
-                return true;
-            }
-            i += 1;
-        }
-        false
+        let waiting = self.waiting;
+        let finished = self.finished;
+        slots_fault(t, self.cache, self.running, waiting, finished, self.clock)
     }
 }

@@ -2,48 +2,28 @@
 
 use super::Machine;
 use super::Ticked;
-use answers::Reply;
+use answers::Outcome;
 use faults::table_fault;
+use numbers::FAULTY_STATE;
+use numbers::LONGEST;
+use numbers::MOST_TICKS;
+use numbers::NOT_A_HEAD;
+use numbers::QUEUE_FULL;
+use numbers::TICKS_SPENT;
+use numbers::WRONG_COST;
 use queues::full::full_with;
-use queues::numbers::FAULTY_STATE;
-use queues::numbers::LARGEST_COST;
-use queues::numbers::MOST_TICKS;
-use queues::numbers::NOT_A_HEAD;
-use queues::numbers::QUEUE_FULL;
-use queues::numbers::TICKS_SPENT;
-use queues::numbers::WRONG_COST;
-use queues::slots::outside;
 use table::Refusal;
-use table::Table;
+use table::links::first_foreign;
+use table::links::next_after;
 ghost use mathlib.Core.Path.{_≡_};
 ghost use mathlib.Core.Bool.{false};
-ghost use Prim.Native.Nat.{ℕ, _≤_, _<_};
-ghost use Rattle.table.specs.Numbers.{places};
+ghost use Prim.Native.Nat.{ℕ};
+ghost use Rattle.numbers.specs.Numbers.{mostWaiting};
 ghost use Rattle.table.specs.Values.{refuse};
-ghost use Rattle.queues.specs.Numbers.{mostWaiting};
+ghost use Rattle.table.specs.Links.{foreign};
 ghost use Rattle.faults.specs.Faults.{tableFault};
-ghost use Rattle.executor.specs.Tick.{foreign, nextAfter, refused, tickOf};
-ghost use Rattle.executor.specs.Parts.{Ready, admitted};
-
-// The callback that the completion of an index activates; 0 where the index is, and where its chain ends.
-fn next_after(t: Table, index: u8) -> u8
-    requires { ⌜ index ≤ places ⌝ }
-    ensures { λ r. ⌜ r ≡ nextAfter t index ⌝ }
-{
-    if index == 0 {
-        return 0;
-    }
-    let c = t.callbacks[(index - 1) as usize];
-    c.next
-}
-
-// The lowest bit of the mask that belongs to no head, plus 1; 0 where there is none.
-fn first_foreign(t: Table, mask: u16) -> u8
-    requires { ⌜ t .count ≤ places ⌝ }
-    ensures { λ r. ⌜ r ≡ foreign t mask ⌝ }
-{
-    table::priority::first_index(outside(mask, table::links::heads(t)))
-}
+ghost use Rattle.executor.specs.Tick.{refused, tickOf};
+ghost use Rattle.executor.specs.Parts.{Admissible, admitted};
 
 impl Machine {
     // A refused tick: the state stays.
@@ -52,7 +32,7 @@ impl Machine {
     {
         Ticked {
             machine: self,
-            reply: Reply::Refused(Refusal {
+            outcome: Outcome::Refused(Refusal {
                 number: number,
                 index: index,
             }),
@@ -64,13 +44,13 @@ impl Machine {
 
     // The effect, unless a queue that it fills is full.
     fn advance(self, mask: u16, supplied: bool, cost: u16) -> Ticked
-        requires { ⌜ (Ready mostWaiting self) × (0 < cost) ⌝ }
+        requires { ⌜ (Admissible mostWaiting self cost) × (foreign (self .table) mask ≡ 0) ⌝ }
         ensures { λ r. ⌜ r ≡ admitted self mask supplied cost ⌝ }
     {
         let ticked = self.effect(mask, supplied, cost);
-        let reply = ticked.reply;
+        let outcome = ticked.outcome;
         let t = self.table;
-        let next = next_after(t, reply.finished());
+        let next = next_after(t, outcome.finished());
         let counts = self.waiting;
         let full = full_with(counts, mask, next);
         if full != 0 {
@@ -93,7 +73,7 @@ impl Machine {
         if cost == 0 {
             return self.refuse(WRONG_COST, 0);
         }
-        if cost > LARGEST_COST as u32 {
+        if cost > LONGEST as u32 {
             return self.refuse(WRONG_COST, 0);
         }
         let t = self.table;

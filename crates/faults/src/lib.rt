@@ -1,12 +1,14 @@
-// The faults of number 29, over the values of a state: one slot, what runs, the table.
+// The faults of row 29 of the refusals, over the values of a state: one slot and all of them, what runs, the table.
 
-use queues::numbers::LARGEST_COST;
-use queues::numbers::MOST_WAITING;
+use numbers::LONGEST;
+use numbers::MOST_WAITING;
+use numbers::PLACES;
 use table::Table;
+use turns::choosing::polled;
 ghost use mathlib.Core.Path.{_≡_};
 ghost use mathlib.Core.Bool.{Bool};
 ghost use Prim.Native.Nat.{ℕ};
-ghost use Rattle.faults.specs.Faults.{tableFault, beyondWrong, countWrong, cacheWrong, slotWrong, runWrong};
+ghost use Rattle.faults.specs.Faults.{tableFault, beyondWrong, countWrong, cacheWrong, slotWrong, slotsFault, runWrong};
 
 // Whether a callback beyond n is cached, waits or has finished.
 fn beyond_fault(beyond: bool, cached: bool, waiting: u16, finished: u32) -> bool
@@ -28,7 +30,7 @@ fn count_fault(waiting: u16, finished: u32, clock: u32) -> bool
     waiting > MOST_WAITING || finished > clock
 }
 
-// Whether a cached or running callback has none waiting, a timer is cached, or a running non-timer is not.
+// Whether a cached or running callback has none waiting, one is cached that is not polled, or one runs that is polled and not cached.
 fn cache_fault(cached: bool, runs: bool, polled: bool, waiting: u16) -> bool
     ensures { λ r. ⌜ r ≡ cacheWrong cached runs polled waiting ⌝ }
 {
@@ -42,7 +44,7 @@ fn cache_fault(cached: bool, runs: bool, polled: bool, waiting: u16) -> bool
 }
 
 // What is wrong in one slot.
-pub fn slot_fault(
+fn slot_fault(
     beyond: bool,
     cached: bool,
     runs: bool,
@@ -62,6 +64,39 @@ pub fn slot_fault(
     cache_fault(cached, runs, polled, waiting)
 }
 
+// Whether any slot is at fault.
+pub fn slots_fault(
+    t: Table,
+    cache: u16,
+    running: u8,
+    waiting: [u16; 16],
+    finished: [u32; 16],
+    clock: u32,
+) -> bool
+    ensures { λ r. ⌜ r ≡ slotsFault t cache running waiting finished clock ⌝ }
+{
+    let mut i: u8 = 0;
+    while i < PLACES {
+        let c = t.callbacks[i as usize];
+        let cached = masks::test_slot(cache, i as u16);
+        let runs = running == i + 1;
+        let polls = polled(c.kind);
+        if slot_fault(
+            i >= t.count,
+            cached,
+            runs,
+            polls,
+            waiting[i as usize],
+            finished[i as usize],
+            clock,
+        ) {
+            return true;
+        }
+        i += 1;
+    }
+    false
+}
+
 // Whether a callback beyond n runs, or the units left do not fit what runs.
 pub fn run_fault(n: u8, running: u8, units: u16) -> bool
     ensures { λ r. ⌜ r ≡ runWrong n running units ⌝ }
@@ -72,13 +107,13 @@ pub fn run_fault(n: u8, running: u8, units: u16) -> bool
     if running == 0 {
         return units != 0;
     }
-    units == 0 || units > LARGEST_COST
+    units == 0 || units > LONGEST
 }
 
 // Whether the reader refuses such a table.
 pub fn table_fault(t: Table) -> bool
     ensures { λ r. ⌜ r ≡ tableFault t ⌝ }
 {
-    let r = reader::rules::fault(t);
+    let r = rules::fault(t);
     r.number != 0
 }

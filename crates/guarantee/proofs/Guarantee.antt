@@ -1,6 +1,6 @@
 -- Demand 3: the claim of specs/Claim.antt, proved.
--- Acceptance makes the table sound and its sheet cover every offset (Ground); a history within the curves is then answered throughout,
--- no instance starts before its activation, and each completion comes within its bound (Kept).
+-- Acceptance makes the table sound and its sheet cover every offset (Analysed); a history within the curves is then answered throughout,
+-- no instance starts before its activation, and each completion comes within its bound (Conclusions).
 use mathlib.Core.Path.{_≡_, sym, subst, ap}
 use mathlib.Core.List.{List}
 use Prim.Native.Nat.{ℕ, _≤_}
@@ -9,37 +9,38 @@ use Rattle.table.specs.declared.Table.{Table}
 use Rattle.reader.specs.Format.{tableAt, readFault}
 use Rattle.reader.proofs.Accepted.{read-table}
 use Rattle.executor.specs.declared.Machine.{Machine}
-use Rattle.queues.specs.Numbers.{mostTicks}
+use Rattle.numbers.specs.Numbers.{mostTicks}
 use Rattle.executor.specs.State.{fresh}
 use Rattle.executor.specs.Start.{startOf}
-use Rattle.sheet.specs.Sheet.{analysisFault, boundOf, rowOf}
+use Rattle.sheet.specs.Sheet.{analysisFault, rowOf}
 use Rattle.sheet.proofs.Accepted.{analysed-read, analysed-at}
-use Rattle.guarantee.specs.History.{Tick, replies}
+use Rattle.guarantee.specs.History.{Tick, results}
 use Rattle.guarantee.specs.Within.{WithinCurves}
-use Rattle.guarantee.specs.Claim.{Kept, Guarantee}
-use Rattle.guarantee.proofs.Ground.{Ground, ground}
-use Rattle.guarantee.proofs.Kept
+use Rattle.guarantee.specs.Claim.{Guaranteed, Guarantee}
+use Rattle.guarantee.proofs.Analysed.{Analysed, analysed}
+use Rattle.guarantee.proofs.Conclusions
+use Rattle.windows.specs.Bounds.{boundOf}
 
 -- a start that is not refused gives the fresh state of the table
 started-fresh : (b : List ℕ) → (readFault b) .number ≡ 0 → (startOf b) .machine ≡ fresh (tableAt b)
 unfolding startOf
 started-fresh b ok = ap fresh (read-table b ok)
 
-kept : (b row : List ℕ) (h : List Tick) → (analysisFault b (length row)) .number ≡ 0 → length h ≤ mostTicks
-    → WithinCurves (tableAt b) h (replies (fresh (tableAt b)) h) → Kept (tableAt b) (rowOf b row) h (replies (fresh (tableAt b)) h)
-kept b row h f short w = record {
-  answered = Kept.answers t gr h short w;
-  started = Kept.starts-late t gr h short w;
-  finished = λ i k v l x end. rw (analysed-at b row f i l) (Kept.in-time t gr h short w i k v (boundOf t i) l (gr .covers i l) x (rw (analysed-at b row f i l) at end));
+guaranteed : (b row : List ℕ) (h : List Tick) → (analysisFault b (length row)) .number ≡ 0 → length h ≤ mostTicks
+    → WithinCurves (tableAt b) h (results (fresh (tableAt b)) h) → Guaranteed (tableAt b) (rowOf b row) h (results (fresh (tableAt b)) h)
+guaranteed b row h f short w = record {
+  answered = Conclusions.answers t an h short w;
+  started = Conclusions.starts-late t an h short w;
+  finished = λ i k v l x end. rw (analysed-at b row f i l) (Conclusions.in-time t an h short w i k v (boundOf t i) l (an .covers i l) x (rw (analysed-at b row f i l) at end));
 }
   where
     t : Table
     t = tableAt b
 
-    gr : Ground (tableAt b)
-    gr = ground b (length row) f
+    an : Analysed (tableAt b)
+    an = analysed b (length row) f
 
 pub guarantee : Guarantee
 guarantee b row h f short =
-    subst (λ (m : Machine). WithinCurves (tableAt b) h (replies m h) → Kept (tableAt b) (rowOf b row) h (replies m h))
-    (sym (started-fresh b (analysed-read b (length row) f))) (kept b row h f short)
+    subst (λ (m : Machine). WithinCurves (tableAt b) h (results m h) → Guaranteed (tableAt b) (rowOf b row) h (results m h))
+    (sym (started-fresh b (analysed-read b (length row) f))) (guaranteed b row h f short)

@@ -4,7 +4,7 @@
 // answer's number, callback, instance, whether one started, whether it polled and how many it took; or its place, `refused`, number, index.
 
 use answers::Answer;
-use answers::Reply;
+use answers::Outcome;
 use executor::Machine;
 use executor::Ticked;
 use libc::STDIN_FILENO;
@@ -53,13 +53,13 @@ fn print_answer(answer: Answer) {
 
 fn print_tick(place: u64, ticked: Ticked) {
     io::print_decimal(STDOUT_FILENO, place);
-    let reply = ticked.reply;
-    match reply {
-        Reply::Refused(r) => {
+    let outcome = ticked.outcome;
+    match outcome {
+        Outcome::Refused(r) => {
             io::write_all(STDOUT_FILENO, b" ");
             print_refusal(r);
         }
-        Reply::Answered(a) => {
+        Outcome::Answered(a) => {
             print_answer(a);
             print_flag(ticked.started);
             print_flag(ticked.polled);

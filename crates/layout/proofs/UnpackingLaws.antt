@@ -5,7 +5,7 @@ use mathlib.Core.Bool.{Bool, true, false, not}
 use mathlib.Core.List.{List}
 use Prim.Native.Nat.{ℕ}
 use borrow.Author.Tests.{not-true}
-use Rattle.curves.proofs.EveryLaws.{never-both}
+use Rattle.ranges.proofs.EveryLaws.{never-both}
 use Rattle.table.specs.declared.Refusal.{Refusal}
 use Rattle.reader.specs.declared.Reading.{Reading}
 use Rattle.reader.specs.Format.{tableAt, readFault, readOf}

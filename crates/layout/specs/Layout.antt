@@ -1,58 +1,35 @@
--- The machine's state in lent bytes, little-endian: docs/STATE.md.
--- 0 the table's own bytes, zero behind them; 528 waiting counts; 560 finished counts; 624 ticks taken; 628 cache; 630 units left; 632 running; 633 zero.
+-- The machine's state in lent bytes, little-endian (docs/STATE.md): the table's own bytes from byte 0 on, zero behind them up to the place
+-- of sixteen records, and then the fields of the state around the table.
 use mathlib.Core.Bool.{Bool, not, _&&_}
 use mathlib.Core.List.{List, [], _∷_, _++_}
-use Prim.Native.Nat.{ℕ, zero, suc, _+_, _-_, _*_}
+use Prim.Native.Nat.{ℕ, _+_, _-_}
 use lib.Dec.{eqb}
 use lib.ListN.{length, getD, take, replicate}
-use Rattle.lent.specs.Bytes.{get2, get4, le2, le4, zeros}
+use Rattle.numbers.specs.Numbers.{places}
+use Rattle.lent.specs.Bytes.{zeros, Field, field, sizeOf, fieldsAt, fieldBytes}
 use Rattle.table.specs.declared.Table.{Table}
-use Rattle.reader.specs.Format.{recordStart, readFault, tableAt}
-use Rattle.reader.specs.Written.{words, written}
+use Rattle.reader.specs.Format.{fieldOf, recordStart, readFault, tableAt}
+use Rattle.reader.specs.Written.{written}
 use Rattle.executor.specs.declared.Machine.{Machine}
 use Rattle.executor.specs.State.{faulty}
 
-abbrev pub stateLength : ℕ
-stateLength = 640
-
--- where each part begins
-abbrev pub waitingStart : ℕ
-waitingStart = 528
-
-abbrev pub finishedStart : ℕ
-finishedStart = 560
-
-abbrev pub clockStart : ℕ
-clockStart = 624
-
-abbrev pub cacheStart : ℕ
-cacheStart = 628
-
-abbrev pub unitsStart : ℕ
-unitsStart = 630
-
-abbrev pub runningStart : ℕ
-runningStart = 632
-
-abbrev pub spareStart : ℕ
-spareStart = 633
-
+-- spare bytes at the end
 abbrev pub spareBytes : ℕ
 spareBytes = 7
 
--- n two-byte numbers from byte k on, and n four-byte numbers
-unfoldable pub get2s : List ℕ → ℕ → ℕ → List ℕ
-get2s b k zero = []
-get2s b k (suc n) = get2s b k n ++ (get2 b (k + 2 * n) ∷ [])
+-- waiting counts; finished counts; ticks taken; cache; units left; what runs; spare bytes
+abbrev pub tailFields : List Field
+tailFields = field 2 places ∷ field 4 places ∷ field 4 1 ∷ field 2 1 ∷ field 2 1 ∷ field 1 1 ∷ field 1 spareBytes ∷ []
 
-unfoldable pub get4s : List ℕ → ℕ → ℕ → List ℕ
-get4s b k zero = []
-get4s b k (suc n) = get4s b k n ++ (get4 b (k + 4 * n) ∷ [])
+-- where they begin, and how long a state is
+abbrev pub tailStart : ℕ
+tailStart = recordStart places
 
--- four-byte numbers, one after the other
-unfoldable pub longs : List ℕ → List ℕ
-longs [] = []
-longs (x ∷ xs) = le4 x ++ longs xs
+abbrev pub stateLength : ℕ
+stateLength = tailStart + sizeOf tailFields
+
+abbrev pub spareStart : ℕ
+spareStart = stateLength - spareBytes
 
 -- where the table's bytes end
 abbrev pub tableEnd : List ℕ → ℕ
@@ -67,34 +44,42 @@ unfoldable pub laidOut : List ℕ → Bool
 laidOut b =
     eqb (length b) stateLength
     && (eqb ((readFault (tablePart b)) .number) 0
-    && (zeros b (tableEnd b) (waitingStart - tableEnd b) && zeros b spareStart spareBytes))
+    && (zeros b (tableEnd b) (tailStart - tableEnd b) && zeros b spareStart spareBytes))
 
--- the state that the bytes hold around a table
-unfoldable pub unpackedWith : Table → List ℕ → Machine
-unpackedWith t b =
+-- the numbers of the fields that bytes hold
+abbrev pub tailAt : List ℕ → List (List ℕ)
+tailAt b = fieldsAt tailFields b tailStart 0
+
+-- the state that such numbers are, around a table
+abbrev pub machineOf : Table → List (List ℕ) → Machine
+machineOf t vs =
     record {
       table = t;
-      waiting = get2s b waitingStart 16;
-      finished = get4s b finishedStart 16;
-      cache = get2 b cacheStart;
-      running = getD b runningStart 0;
-      units = get2 b unitsStart;
-      clock = get4 b clockStart;
+      waiting = fieldOf vs 0;
+      finished = fieldOf vs 1;
+      clock = getD (fieldOf vs 2) 0 0;
+      cache = getD (fieldOf vs 3) 0 0;
+      units = getD (fieldOf vs 4) 0 0;
+      running = getD (fieldOf vs 5) 0 0;
     }
 
 -- the state that the bytes hold
-abbrev pub unpacked : List ℕ → Machine
-unpacked b = unpackedWith (tableAt (tablePart b)) b
+unfoldable pub unpacked : List ℕ → Machine
+unpacked b = machineOf (tableAt (tablePart b)) (tailAt b)
 
--- the bytes behind the table's place
+-- the numbers of a state, field by field
+abbrev pub tailNumbers : Machine → List (List ℕ)
+tailNumbers m =
+    m .waiting ∷ m .finished ∷ (m .clock ∷ []) ∷ (m .cache ∷ []) ∷ (m .units ∷ []) ∷ (m .running ∷ []) ∷ replicate spareBytes 0 ∷ []
+
+-- their bytes
 unfoldable pub packedTail : Machine → List ℕ
-packedTail m =
-    words (m .waiting) ++ (longs (m .finished) ++ (le4 (m .clock) ++ (le2 (m .cache) ++ (le2 (m .units) ++ (m .running ∷ replicate spareBytes 0)))))
+packedTail m = fieldBytes tailFields (tailNumbers m)
 
 -- the state in bytes
 unfoldable pub packed : Machine → List ℕ
-packed m = written (m .table) ++ (replicate (waitingStart - length (written (m .table))) 0 ++ packedTail m)
+packed m = written (m .table) ++ (replicate (tailStart - length (written (m .table))) 0 ++ packedTail m)
 
--- "bytes that hold no state": laid out otherwise, or with a fault
+-- whether bytes hold a state: laid out as one, and without faults
 unfoldable pub holdsState : List ℕ → Bool
 holdsState b = laidOut b && not (faulty (unpacked b))

@@ -1,29 +1,28 @@
-// The machine's state packed in lent bytes and unpacked, as docs/STATE.md lays it out. numbers: its length, and where each part begins.
+// The machine's state packed in lent bytes and unpacked, as docs/STATE.md lays it out. offsets: its length, and where each part begins.
 
 use executor::Machine;
-use numbers::CACHE_START;
-use numbers::CLOCK_START;
-use numbers::FINISHED_START;
-use numbers::RUNNING_START;
-use numbers::SPARE_START;
-use numbers::STATE_LENGTH;
-use numbers::UNITS_START;
-use numbers::WAITING_START;
+use numbers::HEADER_LENGTH;
+use numbers::PLACES;
+use numbers::RECORD_LENGTH;
+use offsets::CACHE_START;
+use offsets::CLOCK_START;
+use offsets::FINISHED_START;
+use offsets::RUNNING_START;
+use offsets::SPARE_START;
+use offsets::STATE_LENGTH;
+use offsets::UNITS_START;
+use offsets::WAITING_START;
 use table::Table;
-use table::numbers::HEADER_LENGTH;
-use table::numbers::PLACES;
-use table::numbers::RECORD_LENGTH;
 ghost use mathlib.Core.Path.{_≡_};
-ghost use mathlib.Core.Bool.{true};
-ghost use Prim.Native.Nat.{ℕ, _≤_};
+ghost use Prim.Native.Nat.{ℕ, _+_, _*_, _≤_};
 ghost use lib.ListN.{length};
-ghost use Rattle.lent.specs.Bytes.{zeros};
+ghost use Rattle.numbers.specs.Numbers.{places};
+ghost use Rattle.lent.specs.Bytes.{numbers, run};
 ghost use Rattle.lent.specs.Over.{over};
-ghost use Rattle.reader.specs.Written.{words};
-ghost use Rattle.layout.specs.Layout.{stateLength, waitingStart, finishedStart, spareStart, spareBytes, get2s, get4s, longs, unpackedWith, packedTail};
+ghost use Rattle.layout.specs.Layout.{stateLength, tailStart, tailAt, machineOf, packedTail};
 ghost use Rattle.layout.specs.Parts.{notLaid, unpacking};
 
-pub mod numbers;
+pub mod offsets;
 
 // What unpacking gives: whether the bytes are laid out as a state, and the state, a blank one where they are not.
 pub struct Unpacked {
@@ -31,29 +30,29 @@ pub struct Unpacked {
     pub machine: Machine,
 }
 
-// The sixteen waiting counts.
-fn get_waiting(state: &[u8]) -> [u16; 16]
-    requires { ⌜ length (now state) ≡ stateLength ⌝ }
-    ensures { λ r. ⌜ r ≡ get2s (now (state .entry)) waitingStart 16 ⌝ }
+// Sixteen numbers of two bytes.
+fn get_u16s(b: &[u8], at: usize) -> [u16; 16]
+    requires { ⌜ at + 2 * places ≤ length (now b) ⌝ }
+    ensures { λ r. ⌜ r ≡ numbers 2 (now (b .entry)) at 0 places ⌝ }
 {
     let mut counts: [u16; 16] = [0; 16];
     let mut i: usize = 0;
     while i < 16 {
-        counts[i] = lent::get_u16(state, WAITING_START + 2 * i);
+        counts[i] = lent::get_u16(b, at + 2 * i);
         i += 1;
     }
     counts
 }
 
-// The sixteen finished counts.
-fn get_finished(state: &[u8]) -> [u32; 16]
-    requires { ⌜ length (now state) ≡ stateLength ⌝ }
-    ensures { λ r. ⌜ r ≡ get4s (now (state .entry)) finishedStart 16 ⌝ }
+// Sixteen numbers of four bytes.
+fn get_u32s(b: &[u8], at: usize) -> [u32; 16]
+    requires { ⌜ at + 4 * places ≤ length (now b) ⌝ }
+    ensures { λ r. ⌜ r ≡ numbers 4 (now (b .entry)) at 0 places ⌝ }
 {
     let mut counts: [u32; 16] = [0; 16];
     let mut i: usize = 0;
     while i < 16 {
-        counts[i] = lent::get_u32(state, FINISHED_START + 4 * i);
+        counts[i] = lent::get_u32(b, at + 4 * i);
         i += 1;
     }
     counts
@@ -62,10 +61,10 @@ fn get_finished(state: &[u8]) -> [u32; 16]
 // The state around a table that was read already.
 fn unpack_with(state: &[u8], table: Table) -> Machine
     requires { ⌜ length (now state) ≡ stateLength ⌝ }
-    ensures { λ r. ⌜ r ≡ unpackedWith table (now (state .entry)) ⌝ }
+    ensures { λ r. ⌜ r ≡ machineOf table (tailAt (now (state .entry))) ⌝ }
 {
-    let waiting = get_waiting(state);
-    let finished = get_finished(state);
+    let waiting = get_u16s(state, WAITING_START);
+    let finished = get_u32s(state, FINISHED_START);
     let cache = lent::get_u16(state, CACHE_START);
     let units = lent::get_u16(state, UNITS_START);
     let clock = lent::get_u32(state, CLOCK_START);
@@ -80,75 +79,51 @@ fn unpack_with(state: &[u8], table: Table) -> Machine
     }
 }
 
-// Writes the sixteen waiting counts.
-fn put_waiting(state: &mut [u8], counts: [u16; 16])
-    requires { ⌜ length (now state) ≡ stateLength ⌝ }
-    ensures { λ _. ⌜ (now (state .exit) ≡ over (now (state .entry)) waitingStart (words counts)) × (length counts ≡ 16) ⌝ }
+// Writes sixteen numbers of two bytes.
+fn put_u16s(b: &mut [u8], at: usize, counts: [u16; 16])
+    requires { ⌜ at + 2 * places ≤ length (now b) ⌝ }
+    ensures { λ _. ⌜ (now (b .exit) ≡ over (now (b .entry)) at (run 2 counts)) × (length counts ≡ places) ⌝ }
 {
     let mut i: usize = 0;
     while i < 16 {
-        lent::put_u16(state, WAITING_START + 2 * i, counts[i]);
+        lent::put_u16(b, at + 2 * i, counts[i]);
         i += 1;
     }
 }
 
-// Writes the sixteen finished counts.
-fn put_finished(state: &mut [u8], counts: [u32; 16])
-    requires { ⌜ length (now state) ≡ stateLength ⌝ }
-    ensures { λ _. ⌜ (now (state .exit) ≡ over (now (state .entry)) finishedStart (longs counts)) × (length counts ≡ 16) ⌝ }
+// Writes sixteen numbers of four bytes.
+fn put_u32s(b: &mut [u8], at: usize, counts: [u32; 16])
+    requires { ⌜ at + 4 * places ≤ length (now b) ⌝ }
+    ensures { λ _. ⌜ (now (b .exit) ≡ over (now (b .entry)) at (run 4 counts)) × (length counts ≡ places) ⌝ }
 {
     let mut i: usize = 0;
     while i < 16 {
-        lent::put_u32(state, FINISHED_START + 4 * i, counts[i]);
+        lent::put_u32(b, at + 4 * i, counts[i]);
         i += 1;
     }
 }
 
-// Writes a state over bytes that hold its table already.
+// Writes the fields of a state over bytes that hold its table already.
 pub fn pack_tail(state: &mut [u8], m: Machine)
-    requires { ⌜ (length (now state) ≡ stateLength) × (zeros (now state) spareStart spareBytes ≡ true) ⌝ }
-    ensures { λ _. ⌜ (now (state .exit) ≡ over (now (state .entry)) waitingStart (packedTail m)) × (length (m .waiting) ≡ 16) × (length (m .finished) ≡ 16) ⌝ }
+    requires { ⌜ length (now state) ≡ stateLength ⌝ }
+    ensures { λ _. ⌜ (now (state .exit) ≡ over (now (state .entry)) tailStart (packedTail m)) × (length (m .waiting) ≡ places) × (length (m .finished) ≡ places) ⌝ }
 {
     let waiting = m.waiting;
     let finished = m.finished;
-    put_waiting(state, waiting);
-    put_finished(state, finished);
+    put_u16s(state, WAITING_START, waiting);
+    put_u32s(state, FINISHED_START, finished);
     lent::put_u32(state, CLOCK_START, m.clock);
     lent::put_u16(state, CACHE_START, m.cache);
     lent::put_u16(state, UNITS_START, m.units);
     lent::put_u8(state, RUNNING_START, m.running);
+    lent::zero(state, SPARE_START, STATE_LENGTH - SPARE_START);
 }
 
 // What unpacking gives where the bytes are not laid out as a state.
 fn no_state() -> Unpacked
     ensures { λ r. ⌜ r ≡ notLaid ⌝ }
 {
-    let blank = table::Callback {
-        kind: 0,
-        next: 0,
-        entries: 0,
-        period: 0,
-        jitter: 0,
-        distance: 0,
-        cost: [0; 8],
-    };
-    let t = Table {
-        edition: 0,
-        count: 0,
-        budget: 0,
-        period: 0,
-        horizon: 0,
-        callbacks: [blank; 16],
-    };
-    let m = Machine {
-        table: t,
-        waiting: [0; 16],
-        finished: [0; 16],
-        cache: 0,
-        running: 0,
-        units: 0,
-        clock: 0,
-    };
+    let m = executor::starting::fresh(table::blank());
     Unpacked {
         laid: false,
         machine: m,

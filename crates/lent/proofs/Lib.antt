@@ -1,5 +1,5 @@
--- Replace: laws of over. Trip: a number's bytes give the number back.
--- Spare: laws of zeros.
+-- Replace: laws of over. Numbers: numbers in bytes, read and written. Fields: lists of fields, read and written. Spare: laws of zeros.
 pub mod Replace
-pub mod Trip
+pub mod Numbers
+pub mod Fields
 pub mod Spare

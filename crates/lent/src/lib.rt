@@ -6,7 +6,7 @@ ghost use mathlib.Core.Path.{_≡_};
 ghost use mathlib.Core.List.{[], _∷_};
 ghost use Prim.Native.Nat.{ℕ, _<_, _≤_, _+_, _-_};
 ghost use lib.ListN.{length, replicate};
-ghost use Rattle.lent.specs.Bytes.{get2, get4, le2, le4, zeros};
+ghost use Rattle.lent.specs.Bytes.{get, le, zeros};
 ghost use Rattle.lent.specs.Over.{over};
 
 // A byte as a number of two bytes.
@@ -26,7 +26,7 @@ fn byte_u32(x: u8) -> u32
 // The number in the two bytes from `at` on.
 pub fn get_u16(b: &[u8], at: usize) -> u16
     requires { ⌜ at + 2 ≤ length (now b) ⌝ }
-    ensures { λ r. ⌜ r ≡ get2 (now (b .entry)) at ⌝ }
+    ensures { λ r. ⌜ r ≡ get 2 (now (b .entry)) at ⌝ }
 {
     byte_u16(b[at]) + byte_u16(b[at + 1]) * 256
 }
@@ -34,7 +34,7 @@ pub fn get_u16(b: &[u8], at: usize) -> u16
 // The number in the four bytes from `at` on.
 pub fn get_u32(b: &[u8], at: usize) -> u32
     requires { ⌜ at + 4 ≤ length (now b) ⌝ }
-    ensures { λ r. ⌜ r ≡ get4 (now (b .entry)) at ⌝ }
+    ensures { λ r. ⌜ r ≡ get 4 (now (b .entry)) at ⌝ }
 {
     byte_u32(b[at])
         + byte_u32(b[at + 1]) * 256
@@ -53,7 +53,7 @@ pub fn put_u8(b: &mut [u8], at: usize, x: u8)
 // Writes x to the two bytes from `at` on.
 pub fn put_u16(b: &mut [u8], at: usize, x: u16)
     requires { ⌜ at + 2 ≤ length (now b) ⌝ }
-    ensures { λ _. ⌜ now (b .exit) ≡ over (now (b .entry)) at (le2 x) ⌝ }
+    ensures { λ _. ⌜ now (b .exit) ≡ over (now (b .entry)) at (le 2 x) ⌝ }
 {
     b[at] = (x % 256) as u8;
     b[at + 1] = (x / 256) as u8;
@@ -62,7 +62,7 @@ pub fn put_u16(b: &mut [u8], at: usize, x: u16)
 // Writes x to the four bytes from `at` on.
 pub fn put_u32(b: &mut [u8], at: usize, x: u32)
     requires { ⌜ at + 4 ≤ length (now b) ⌝ }
-    ensures { λ _. ⌜ now (b .exit) ≡ over (now (b .entry)) at (le4 x) ⌝ }
+    ensures { λ _. ⌜ now (b .exit) ≡ over (now (b .entry)) at (le 4 x) ⌝ }
 {
     b[at] = (x % 256) as u8;
     b[at + 1] = (x / 256 % 256) as u8;

@@ -1,15 +1,19 @@
 -- The mask gathered from a test has just the slots below n that pass it. Assumes nothing.
-use mathlib.Core.Path.{_≡_, refl, sym, ap, _∙_}
-use mathlib.Core.Bool.{Bool, true, false, _&&_}
+-- gather-took, gather-left: one slot more, as a loop goes on. gather-lt, gather-out, gather-in, gather-has: which slots it has. gather-same, gather-none: of tests
+-- that agree, and of one that nothing passes. gather-mask: of the sixteen slots. below-all, below-has: all slots below n. mask-within: a mask whose slots
+-- are below n.
+use mathlib.Core.Path.{_≡_, refl, sym, ap, _∙_, subst}
+use mathlib.Core.Bool.{Bool, true, false, _&&_, and-false}
 use mathlib.Core.Logic.{⊎-elim}
-use Prim.Native.Nat.{ℕ, zero, suc, _^_, _≤_, _<_}
+use Prim.Native.Nat.{ℕ, zero, suc, _+_, _-_, _^_, _≤_, _<_}
 use native.Mathlib.Nat.{eq-or-lt-of-le, pow-suc, lt-of-lt-of-le, le-of-suc-le-suc}
+use native.Mathlib.Numerals.{add-one}
 use native.Mathlib.Omega.{arith}
 use lib.Dec.{ltb}
 use lib.Pow.{pow-mono, pow-pos}
-use borrow.Author.Tests.{ltb-true, ltb-false}
+use borrow.Author.Tests.{ltb-true, ltb-false, lt-ltb}
 use Rattle.masks.specs.Mask.{has, withBit, gather}
-use Rattle.masks.proofs.Slots.{has-above, has-with-same, has-with-other, with-lt, mask-ext}
+use Rattle.masks.proofs.Slots.{has-above, has-with-same, has-with-other, with-lt, mask-ext, mask-none}
 
 -- whether slot n passes, with the mask that it leads to
 step : (P : ℕ → Type 0) (p : ℕ → Bool) (n : ℕ) → (p n ≡ true → P (withBit (gather p n) n)) → (p n ≡ false → P (gather p n)) → P (gather p (suc n))
@@ -19,6 +23,15 @@ step P p n took left = go (p n) refl
     go : (b : Bool) → p n ≡ b → P (elim (p n) as (λ _. ℕ) [ true ↦ withBit (gather p n) n | false ↦ gather p n ])
     go true e = rw e (took e)
     go false e = rw e (left e)
+
+module _ (p : ℕ → Bool) (i m : ℕ) (so : m ≡ gather p i) where
+  pub gather-took : p i ≡ true → withBit m i ≡ gather p (i + 1)
+  unfolding gather
+  gather-took e = ap (λ (x : ℕ). withBit x i) so ∙ sym (rw (add-one, gather, e))
+
+  pub gather-left : p i ≡ false → m ≡ gather p (i + 1)
+  unfolding gather
+  gather-left e = so ∙ sym (rw (add-one, gather, e))
 
 pub gather-lt : (p : ℕ → Bool) (n : ℕ) → gather p n < 2 ^ n
 unfolding gather
@@ -64,6 +77,35 @@ gather-same p q n same =
     mask-ext n (gather p n) (gather q n) (gather-lt p n) (gather-lt q n)
     (λ i h. gather-in p n i h ∙ same i h ∙ sym (gather-in q n i h))
 
+pub gather-none : (p : ℕ → Bool) (n : ℕ) → ((i : ℕ) → i < n → p i ≡ false) → gather p n ≡ 0
+gather-none p n none = mask-none n (gather p n) (gather-lt p n) (λ i h. gather-in p n i h ∙ none i h)
+
 -- of the sixteen slots
 pub gather-mask : (p : ℕ → Bool) (n : ℕ) → n ≤ 16 → gather p n < 65536
 gather-mask p n h = lt-of-lt-of-le (gather-lt p n) (pow-mono h)
+
+-- all slots below n
+below-all : (n : ℕ) → gather (λ _. true) n ≡ 2 ^ n - 1
+unfolding gather withBit
+below-all zero = refl
+below-all (suc n) = simp (below-all n, has-above n (2 ^ n - 1) n (omega (arith, pow-pos n)) (omega arith)) (omega (arith, pow-suc 2 n, pow-pos n))
+
+pub below-has : (n i : ℕ) → i < n → has (2 ^ n - 1) i ≡ true
+below-has n i h = ap (λ (m : ℕ). has m i) (sym (below-all n)) ∙ gather-in (λ _. true) n i h
+
+-- ---- a mask whose slots are all below n
+
+over-itself : (m : ℕ) → m < 2 ^ m
+over-itself zero = omega arith
+over-itself (suc m) = omega (arith, over-itself m, pow-suc 2 m)
+
+pub mask-within : (m n : ℕ) → ((i : ℕ) → has m i ≡ true → i < n) → m < 2 ^ n
+mask-within m n h =
+    subst (λ (x : ℕ). x < 2 ^ n)
+    (sym (mask-ext (m + n) m (gather (has m) n) (lt-of-lt-of-le (over-itself m) (pow-mono (omega arith))) (lt-of-lt-of-le (gather-lt (has m) n) (pow-mono (omega arith)))
+    (λ i l. same i (has m i) refl ∙ sym (gather-has (has m) n i))))
+    (gather-lt (has m) n)
+  where
+    same : (i : ℕ) (b : Bool) → has m i ≡ b → has m i ≡ (ltb i n && has m i)
+    same i true e = ap (λ (b : Bool). b && has m i) (sym (lt-ltb i n (h i e)))
+    same i false e = e ∙ sym (ap (λ (b : Bool). ltb i n && b) e ∙ and-false (ltb i n))

@@ -1,7 +1,8 @@
 -- Slots: one slot set or cleared, two masks, masks that agree. Operators: what the code's shifts and masks compute.
--- Counting, Lowest, Gather: laws of countOf, of firstFrom and firstOf, and of gather.
+-- Counting, Search, Gather, Index: laws of countOf, of firstFrom and firstOf, of gather, and of firstIndex.
 pub mod Slots
 pub mod Operators
 pub mod Counting
-pub mod Lowest
+pub mod Search
 pub mod Gather
+pub mod Index

@@ -1,13 +1,13 @@
 -- What the code's operators compute: `1 << i` is (1 * 2 ^ i) % 65536, and `!x` is 65535 - x. Assumes nothing.
 use mathlib.Core.Path.{_≡_, refl, sym, ap, ap₂, _∙_}
 use mathlib.Core.Bool.{not}
-use Prim.Native.Nat.{ℕ, zero, suc, _+_, _-_, _*_, _/_, _%_, _^_, _<_, min}
+use Prim.Native.Nat.{ℕ, zero, suc, _+_, _-_, _*_, _/_, _%_, _^_, _≤_, _<_, min}
 use native.Mathlib.Nat.{mod-eq-of-lt, zero-mul, one-mul, pow-suc}
 use native.Mathlib.Omega.{arith}
 use lib.Dec.{eqb}
 use lib.Arith.{lt-one}
 use lib.Bits.{bitAnd, bitOr, and-step}
-use lib.Pow.{pow-pos, pow-lt}
+use lib.Pow.{pow-pos, pow-lt, pow-mono}
 use borrow.Author.Tests.{ne-eqb}
 use Rattle.masks.specs.Mask.{has, withBit, withoutBit}
 use Rattle.masks.specs.Parts.{except}
@@ -68,3 +68,7 @@ clear-law m i h l =
     ap (λ (x : ℕ). bitAnd m (65535 - x)) (one-shl i h)
     ∙ and-not 16 m (2 ^ i) l (pow-lt h)
     ∙ sym (without-except m i)
+
+-- `1 << n` in 32 bits
+pub one-shl-32 : (n : ℕ) → n ≤ 16 → ((1 * 2 ^ n) % 4294967296 ≡ 2 ^ n) × (0 < 2 ^ n) × (2 ^ n ≤ 65536)
+one-shl-32 n h = (ap (λ (x : ℕ). x % 2 ^ 32) (one-mul (2 ^ n)) ∙ mod-eq-of-lt (pow-lt {j = 32} (omega arith)), pow-pos n, pow-mono h)

@@ -1,5 +1,6 @@
 -- What the functions on masks give beyond what document 01 says by masks. both, except: two masks. firstFrom, firstOf: a search.
 use Prim.Native.Nat.{ℕ, zero, suc, _-_}
+use lib.Dec.{eqb}
 use mathlib.Core.Bool.{true, false}
 use lib.Bits.{bitAnd}
 use Rattle.masks.specs.Mask.{has}
@@ -17,6 +18,10 @@ unfoldable pub firstFrom : ℕ → ℕ → ℕ → ℕ
 firstFrom zero i m = i
 firstFrom (suc n) i m = elim (has m i) [ true ↦ i | false ↦ firstFrom n (suc i) m ]
 
--- "lowest such bit": the first slot that is in m, 16 where none is
+-- the first slot that is in m, 16 where none is
 unfoldable pub firstOf : ℕ → ℕ
 firstOf m = firstFrom 16 0 m
+
+-- the lowest slot of a mask as an index, or 0
+unfoldable pub firstIndex : ℕ → ℕ
+firstIndex m = elim (eqb m 0) [ true ↦ 0 | false ↦ suc (firstOf m) ]

@@ -1,4 +1,4 @@
--- Step 1, "Heads in the mask gain one waiting instance each", slot by slot. Assumes nothing.
+-- Arrivals (step 1 of a tick), slot by slot. Assumes nothing.
 -- arrived-length, arrived-at: each slot gains 1 if the mask has it. arrived-none: an empty mask. arrived-one: a slot of the mask taken out and counted.
 -- Counting, counting-one: the slots counted one after the other.
 use mathlib.Core.Path.{_≡_, refl, sym, ap, _∙_}
@@ -12,10 +12,9 @@ use lib.ListN.{length, getD, length-set}
 use lib.Seq.{getD-set-same, getD-set-other, ext-getD}
 use Rattle.masks.specs.Mask.{has, withoutBit}
 use Rattle.masks.proofs.Slots.{has-zero, has-without-same, has-without-other, without-le}
-use Rattle.curves.specs.Sum.{given}
-use Rattle.curves.proofs.EveryLaws.{never-both}
-use Rattle.table.specs.Numbers.{places}
-use Rattle.queues.specs.Numbers.{mostWaiting}
+use Rattle.ranges.specs.Sum.{given}
+use Rattle.ranges.proofs.EveryLaws.{never-both}
+use Rattle.numbers.specs.Numbers.{places, mostWaiting}
 use Rattle.queues.specs.Queues.{gained, arrivedTo, arrived}
 
 module _ (mask : ℕ) (ws : List ℕ) where

@@ -1,5 +1,3 @@
--- SlotLaws: the slots of a mask, one after the other. ArrivedLaws: step 1. QueueLaws: full queues, and activation. ChooseLaws: step 3.
-pub mod SlotLaws
+-- ArrivedLaws: step 1. QueueLaws: full queues, and completions.
 pub mod ArrivedLaws
 pub mod QueueLaws
-pub mod ChooseLaws

@@ -1,48 +1,31 @@
 -- Queues that are full, slot by slot, and the next that a completion activates. Assumes nothing.
--- lowest-is, lowest-never: the lowest slot that passes. full-hit, full-miss, full-end: a mask's slots one after the other.
--- full-alone, full-past, full-one: with the callback that is activated. activated-none, activated-some: the next of a completion gains 1.
+-- full-hit, full-miss, full-end: a mask's slots one after the other. full-alone, full-past, full-one: with the callback that is counted.
+-- counted-none, counted-some: the next of a completion. gained-at, lessened-at, counted-at, completed-at: the counts then, slot by slot;
+-- counted-length, completed-length: as many as before.
 use mathlib.Core.Path.{_≡_, refl, sym, ap, ap₂, _∙_}
 use mathlib.Core.Logic.{_≢_}
-use mathlib.Core.Bool.{Bool, true, false, not, _&&_, _||_}
+use mathlib.Core.Bool.{Bool, true, false, _&&_, _||_}
 use mathlib.Core.List.{List}
 use Prim.Native.Nat.{ℕ, zero, suc, _+_, _-_, _≤_, _<_}
 use native.Mathlib.Decide.{ℕ-discrete}
 use native.Mathlib.Numerals.{add-one}
 use native.Mathlib.Omega.{arith}
-use lib.Dec.{T, eqb, leb}
+use lib.Dec.{eqb, leb}
 use lib.ListN.{getD}
 use borrow.Author.Tests.{eq-eqb, ne-eqb, le-leb, lt-leb}
 use Rattle.masks.specs.Mask.{has, withBit, withoutBit}
 use Rattle.masks.specs.Parts.{firstOf}
 use Rattle.masks.proofs.Slots.{has-zero, has-with, has-without-other}
-use Rattle.masks.proofs.Lowest.{first-of-below}
-use Rattle.curves.specs.Least.{lowest}
-use Rattle.curves.proofs.LeastLaws.{First, byIndex, lowest-least, least-is, lowest-hit, lowest-same}
-use Rattle.curves.proofs.EveryLaws.{T-holds, T-fails}
-use Rattle.table.specs.Numbers.{places}
-use Rattle.queues.specs.Numbers.{mostWaiting}
-use Rattle.queues.specs.Queues.{gained, activated, fullWith}
+use Rattle.masks.proofs.Search.{first-of-below, lowest-set}
+use Rattle.ranges.proofs.LeastLaws.{lowest-is, lowest-never, lowest-same}
+use Rattle.ranges.specs.Sum.{hit}
+use Rattle.ranges.proofs.SumLaws.{hit-self, hit-other, hit-none}
+use lib.ListN.{length, length-set}
+use lib.Seq.{getD-set-same, getD-set-other}
+use native.Mathlib.Nat.{add-zero}
+use Rattle.numbers.specs.Numbers.{places, mostWaiting}
+use Rattle.queues.specs.Queues.{gained, lessened, counted, completed, fullWith}
 use Rattle.queues.specs.Parts.{fullIn}
-use Rattle.queues.proofs.SlotLaws.{lowest-set}
-
--- ---- the lowest slot that passes
-
-pub lowest-is : (p : ℕ → Bool) (n i : ℕ) → i < n → p i ≡ true → ((j : ℕ) → j < i → p j ≡ false) → lowest p n ≡ suc i
-lowest-is p n i l e none = lowest-least p n 0 ∙ least-is (byIndex p) n 1 (suc i) found
-  where
-    before : (x : ℕ) → 1 ≤ x → x < suc i → T (not (byIndex p x))
-    before zero a b = absurd (omega arith)
-    before (suc j) a b = T-fails (p j) (none j (omega arith))
-
-    found : First (byIndex p) n 1 (suc i)
-    found = record { from = omega arith; below = omega arith; passes = T-holds (p i) e; none-before = before }
-
-pub lowest-never : (n : ℕ) → lowest (λ _. false) n ≡ 0
-lowest-never n = go (lowest (λ _. false) n) refl
-  where
-    go : (r : ℕ) → lowest (λ _. false) n ≡ r → r ≡ 0
-    go zero e = refl
-    go (suc i) e = absurd (lowest-hit (λ _. false) n i e .1)
 
 -- ---- the slots of a mask that are full
 
@@ -70,10 +53,9 @@ module _ (ws : List ℕ) (m r : ℕ) (first : (r ≡ firstOf m) × (r < 16)) whe
 
 pub full-end : (ws : List ℕ) (m : ℕ) → m ≡ 0 → 0 ≡ fullIn ws m
 unfolding fullIn
-full-end ws m e =
-    sym (lowest-same _ (λ _. false) places (λ j l. ap (λ (b : Bool). b && leb mostWaiting (getD ws j 0)) (ap (λ (x : ℕ). has x j) e ∙ has-zero j)) ∙ lowest-never places)
+full-end ws m e = sym (lowest-never _ places (λ j l. ap (λ (x : ℕ). has x j && leb mostWaiting (getD ws j 0)) e ∙ ap (λ (b : Bool). b && leb mostWaiting (getD ws j 0)) (has-zero j)))
 
--- ---- with the callback that is activated
+-- ---- with the callback that is counted
 
 module _ (ws : List ℕ) (mask x : ℕ) where
   or-false : (b : Bool) → b ≡ (b || false)
@@ -106,11 +88,43 @@ module _ (ws : List ℕ) (mask x : ℕ) where
 
 -- ---- the next of a completion
 
-pub activated-none : (x : ℕ) (ws : List ℕ) → x ≡ 0 → ws ≡ activated x ws
-unfolding activated
-activated-none x ws e = ap (λ (y : ℕ). activated y ws) (sym e)
+pub counted-none : (x : ℕ) (ws : List ℕ) → x ≡ 0 → ws ≡ counted x ws
+unfolding counted
+counted-none x ws e = ap (λ (y : ℕ). counted y ws) (sym e)
 
-pub activated-some : (x : ℕ) (ws : List ℕ) → x ≢ 0 → gained (x - 1) ws ≡ activated x ws
-unfolding activated
-activated-some zero ws h = absurd (h refl)
-activated-some (suc j) ws h = ap (λ (i : ℕ). gained i ws) (omega arith)
+pub counted-some : (x : ℕ) (ws : List ℕ) → x ≢ 0 → gained (x - 1) ws ≡ counted x ws
+unfolding counted
+counted-some zero ws h = absurd (h refl)
+counted-some (suc j) ws h = ap (λ (i : ℕ). gained i ws) (omega arith)
+
+-- ---- the counts, slot by slot
+
+pub gained-at : (ws : List ℕ) (i j : ℕ) → j < length ws → getD (gained i ws) j 0 ≡ getD ws j 0 + hit (suc i) j
+gained-at ws i j h = go (ℕ-discrete j i)
+  where
+    go : Dec (j ≡ i) → getD (gained i ws) j 0 ≡ getD ws j 0 + hit (suc i) j
+    go (yes p) = rw (p, hit-self) (getD-set-same ws i (getD ws i 0 + 1) 0 (omega arith))
+    go (no p) = rw (hit-other (suc i) j (λ e. p (omega arith)), getD-set-other ws i j (getD ws i 0 + 1) 0 p, add-zero)
+
+pub lessened-at : (ws : List ℕ) (i j : ℕ) → j < length ws → 0 < getD ws i 0 → getD (lessened i ws) j 0 + hit (suc i) j ≡ getD ws j 0
+lessened-at ws i j h w = go (ℕ-discrete j i)
+  where
+    go : Dec (j ≡ i) → getD (lessened i ws) j 0 + hit (suc i) j ≡ getD ws j 0
+    go (yes p) = rw (p, hit-self, getD-set-same ws i (getD ws i 0 - 1) 0 (omega arith)) (omega arith)
+    go (no p) = rw (hit-other (suc i) j (λ e. p (omega arith)), getD-set-other ws i j (getD ws i 0 - 1) 0 p, add-zero)
+
+pub counted-length : (x : ℕ) (ws : List ℕ) → length (counted x ws) ≡ length ws
+unfolding counted
+counted-length zero ws = refl
+counted-length (suc i) ws = length-set ws i _
+
+pub counted-at : (x : ℕ) (ws : List ℕ) (j : ℕ) → j < length ws → getD (counted x ws) j 0 ≡ getD ws j 0 + hit x j
+unfolding counted
+counted-at zero ws j h = omega (arith, hit-none j)
+counted-at (suc i) ws j h = gained-at ws i j h
+
+pub completed-length : (i x : ℕ) (ws : List ℕ) → length (completed i x ws) ≡ length ws
+completed-length i x ws = counted-length x (lessened i ws) ∙ length-set ws i _
+
+pub completed-at : (i x : ℕ) (ws : List ℕ) (j : ℕ) → j < length ws → 0 < getD ws i 0 → getD (completed i x ws) j 0 + hit (suc i) j ≡ getD ws j 0 + hit x j
+completed-at i x ws j h w = omega (arith, counted-at x (lessened i ws) j (omega (arith, length-set ws i (getD ws i 0 - 1))), lessened-at ws i j h w)

@@ -1,5 +1,3 @@
--- Numbers: limits and refusal numbers of a tick. Queues: waiting counts. Choosing: step 3 of a tick. Parts: what inner functions give.
-pub mod Numbers
+-- Queues: waiting counts. Parts: what inner functions give.
 pub mod Queues
-pub mod Choosing
 pub mod Parts

@@ -1,8 +1,8 @@
 // Queues that are full: 255 instances wait.
 
-use super::numbers::MOST_WAITING;
-use super::numbers::PLACES;
-use super::slots::lowest;
+use masks::lowest;
+use numbers::MOST_WAITING;
+use numbers::PLACES;
 ghost use mathlib.Core.Path.{_≡_};
 ghost use Prim.Native.Nat.{ℕ};
 ghost use Rattle.queues.specs.Queues.{fullWith};

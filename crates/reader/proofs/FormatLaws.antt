@@ -1,28 +1,26 @@
 -- Reading the bytes of a table: its spare bytes, its records in turn, and the reader as a whole. Assumes nothing.
--- spare-first, spare-second, spare-third: a record's spare bytes. spares-in, spares-out: the mask of records. records-more: one record more.
--- table-whole: all of them under their header. read-short, read-edition, read-none, read-many, read-off, read-whole: the reader, test by test.
--- reading-refused, reading-whole: what it hands back.
+-- spare-first, spare-second, spare-third: a record's spare bytes. records-more: one record more. table-whole: all of them under their header.
+-- read-short, read-head, read-off, read-whole: the reader, test by test. reading-refused, reading-whole: what it hands back.
 use mathlib.Core.Path.{_≡_, sym, ap, ap₂, _∙_}
 use mathlib.Core.Logic.{_≢_}
 use mathlib.Core.Bool.{Bool, true, false, not, and-false}
-use mathlib.Core.List.{List}
+use mathlib.Core.List.{List, [], _∷_}
 use Prim.Native.Nat.{ℕ, _+_, _-_, _≤_, _<_}
 use native.Mathlib.Numerals.{add-one}
 use native.Mathlib.Omega.{arith}
 use lib.Dec.{eqb}
 use lib.ListN.{length, getD, set}
 use borrow.Author.Tests.{eq-eqb, ne-eqb, lt-ltb, le-ltb}
-use Rattle.masks.specs.Mask.{withBit, gather}
-use Rattle.lent.specs.Bytes.{get2, zeros}
+use Rattle.numbers.specs.Numbers.{headerLength, shortHeader, wrongLength}
+use Rattle.lent.specs.Bytes.{get, numbers, zeros, fieldsAt}
 use Rattle.table.specs.declared.Callback.{Callback}
-use Rattle.reader.specs.declared.Reading.{Reading}
 use Rattle.table.specs.declared.Refusal.{Refusal}
 use Rattle.table.specs.declared.Table.{Table}
-use Rattle.table.specs.Numbers.{headerLength, shortHeader, unknownEdition, wrongCount, wrongLength}
-use Rattle.table.specs.Values.{refuse}
-use Rattle.reader.specs.Rules.{faultWith}
-use Rattle.reader.specs.Format.{recordAt, spareAt, recordStart, recordsTo, tableAt, sparesAt, readFault, refusedReading, readOf}
-use Rattle.reader.proofs.FaultLaws.{fault-edition, fault-none, fault-many, fault-off}
+use Rattle.table.specs.Values.{refuse, tableOf, withCallbacks, headless}
+use Rattle.table.proofs.RefusalLaws.{first-refused, first-passed}
+use Rattle.rules.specs.Rules.{headFault, bodyFault}
+use Rattle.reader.specs.declared.Reading.{Reading}
+use Rattle.reader.specs.Format.{recordAt, spareAt, recordStart, recordsTo, tableAt, sparesAt, wholeFault, readFault, refusedReading, readOf}
 
 -- ---- spare bytes, as runs that end before byte k + 4, k + 12 and k + 32
 
@@ -49,38 +47,18 @@ module _ (b : List ℕ) (k : ℕ) (x : Bool) (first : x ≡ zeros b (k + 3) (k +
         let rest : zeros b (k + 28) 4 ≡ z = ap (zeros b (k + 28)) four ∙ sym third in
         simp (one, e, two, f, rest)
 
--- ---- the records with a spare byte not zero, one more
+-- ---- the records, one more, and the header's numbers beside all of them
 
-module _ (p : ℕ → Bool) (i m : ℕ) (so : m ≡ gather p i) where
-  pub gather-took : p i ≡ true → withBit m i ≡ gather p (i + 1)
-  unfolding gather
-  gather-took e = ap (λ (x : ℕ). withBit x i) so ∙ sym (ap (gather p) (add-one i) ∙ rw (e, gather))
+module _ (b : List ℕ) (i : ℕ) (t : Table) (so : t ≡ headless (recordsTo b i)) where
+  pub records-more : (c : Callback) → c ≡ recordAt b (recordStart i) → withCallbacks t (set (t .callbacks) i c) ≡ headless (recordsTo b (i + 1))
+  unfolding recordsTo
+  records-more c f = ap₂ (λ (u : Table) (d : Callback). withCallbacks u (set (u .callbacks) i d)) so f ∙ ap (λ (k : ℕ). headless (recordsTo b k)) (sym (add-one i))
 
-  pub gather-left : p i ≡ false → m ≡ gather p (i + 1)
-  unfolding gather
-  gather-left e = so ∙ sym (ap (gather p) (add-one i) ∙ rw (e, gather))
-
--- ---- the records, one more
-
--- a blank table with these records
-abbrev pub recorded : List Callback → Table
-recorded cs = record { edition = 0; count = 0; budget = 0; period = 0; horizon = 0; callbacks = cs }
-
-pub records-more : (b : List ℕ) (i : ℕ) (t : Table) (c : Callback) → t ≡ recorded (recordsTo b i) → c ≡ recordAt b (recordStart i)
-    → record { edition = t .edition; count = t .count; budget = t .budget; period = t .period; horizon = t .horizon; callbacks = set (t .callbacks) i c } ≡ recorded (recordsTo b (i + 1))
-unfolding recordsTo
-records-more b i t c e f =
-    ap₂ (λ (u : Table) (d : Callback). record { edition = u .edition; count = u .count; budget = u .budget; period = u .period; horizon = u .horizon; callbacks = set (u .callbacks) i d }) e f
-    ∙ ap (λ (k : ℕ). recorded (recordsTo b k)) (sym (add-one i))
-
--- the header's numbers beside all its records
-pub table-whole : (b : List ℕ) (i : ℕ) (t : Table) (q p h : ℕ) → t ≡ recorded (recordsTo b i) → i ≡ getD b 1 0 → q ≡ get2 b 2 → p ≡ get2 b 4 → h ≡ get2 b 6
-    → record { edition = getD b 0 0; count = getD b 1 0; budget = q; period = p; horizon = h; callbacks = t .callbacks } ≡ tableAt b
-unfolding tableAt
-table-whole b i t q p h e f eq ep eh =
-    simp (eq, ep, eh)
-    (ap (λ (cs : List Callback). record { edition = getD b 0 0; count = getD b 1 0; budget = get2 b 2; period = get2 b 4; horizon = get2 b 6; callbacks = cs })
-    (ap (λ (u : Table). u .callbacks) e ∙ ap (recordsTo b) f))
+  pub table-whole : (q p h : ℕ) → i ≡ getD b 1 0 → q ≡ get 2 b 2 → p ≡ get 2 b 4 → h ≡ get 2 b 6
+      → tableOf (getD b 0 0 ∷ getD b 1 0 ∷ []) (q ∷ p ∷ h ∷ []) (t .callbacks) ≡ tableAt b
+  unfolding tableAt fieldsAt numbers
+  table-whole q p h f eq ep eh =
+      simp (eq, ep, eh) (ap (tableOf (getD b 0 0 ∷ getD b 1 0 ∷ []) (get 2 b 2 ∷ get 2 b 4 ∷ get 2 b 6 ∷ [])) (ap (λ (u : Table). u .callbacks) so ∙ ap (recordsTo b) f))
 
 -- ---- the reader
 
@@ -89,36 +67,24 @@ module _ (b : List ℕ) where
   unfolding readFault
   read-short h = rw (lt-ltb (length b) headerLength h, readFault)
 
-  pub read-long : headerLength ≤ length b
-      → readFault b ≡ faultWith (not (eqb (length b) (recordStart (getD b 1 0)))) (not (zeros b 8 8)) (sparesAt b) (tableAt b)
-  unfolding readFault
-  read-long h = rw (le-ltb (length b) headerLength h, readFault)
+  module _ (long : headerLength ≤ length b) (r : Refusal) (head : r ≡ headFault (getD b 0 0) (getD b 1 0)) where
+    pub read-head : r .number ≢ 0 → readFault b ≡ r
+    unfolding readFault
+    read-head h = rw (le-ltb (length b) headerLength long, readFault, ← head) (first-refused r _ h)
 
-  module _ (long : headerLength ≤ length b) where
-    abbrev off : Bool
-    off = not (eqb (length b) (recordStart (getD b 1 0)))
+    module _ (ok : r .number ≡ 0) where
+      rest : readFault b ≡ wholeFault b
+      unfolding readFault
+      rest = rw (le-ltb (length b) headerLength long, readFault, ← head) (first-passed r _ ok)
 
-    pub read-edition : getD b 0 0 ≢ 1 → readFault b ≡ refuse unknownEdition 0
-    unfolding tableAt
-    read-edition h = read-long long ∙ fault-edition off (not (zeros b 8 8)) (sparesAt b) (tableAt b) h
+      pub read-off : length b ≢ recordStart (getD b 1 0) → readFault b ≡ refuse wrongLength 0
+      unfolding wholeFault
+      read-off h = rest ∙ rw (ne-eqb (length b) (recordStart (getD b 1 0)) h)
 
-    module _ (one : getD b 0 0 ≡ 1) where
-      pub read-none : getD b 1 0 ≡ 0 → readFault b ≡ refuse wrongCount 0
-      unfolding tableAt
-      read-none e = read-long long ∙ fault-none off (not (zeros b 8 8)) (sparesAt b) (tableAt b) one e
-
-      pub read-many : 16 < getD b 1 0 → readFault b ≡ refuse wrongCount 0
-      unfolding tableAt
-      read-many h = read-long long ∙ fault-many off (not (zeros b 8 8)) (sparesAt b) (tableAt b) one h
-
-      pub read-off : getD b 1 0 ≢ 0 → getD b 1 0 ≤ 16 → length b ≢ recordStart (getD b 1 0) → readFault b ≡ refuse wrongLength 0
-      unfolding tableAt
-      read-off some few h = read-long long ∙ fault-off off (not (zeros b 8 8)) (sparesAt b) (tableAt b) one some few (ap not (ne-eqb (length b) (recordStart (getD b 1 0)) h))
-
-    pub read-whole : length b ≡ recordStart (getD b 1 0) → (z : Bool) → z ≡ zeros b 8 8 → (s : ℕ) → s ≡ sparesAt b → (t : Table) → t ≡ tableAt b
-        → readFault b ≡ faultWith false (not z) s t
-    read-whole e z clear s spares t values =
-        read-long long ∙ rw (clear, spares, values) (ap (λ (x : Bool). faultWith (not x) (not (zeros b 8 8)) (sparesAt b) (tableAt b)) (eq-eqb (length b) (recordStart (getD b 1 0)) e))
+      pub read-whole : length b ≡ recordStart (getD b 1 0) → (z : Bool) → z ≡ zeros b 8 8 → (s : ℕ) → s ≡ sparesAt b → (t : Table) → t ≡ tableAt b
+          → readFault b ≡ bodyFault (not z) s t
+      unfolding wholeFault
+      read-whole e z clear s spares t values = rest ∙ rw (clear, spares, values, eq-eqb (length b) (recordStart (getD b 1 0)) e)
 
   module _ (r : Refusal) (so : readFault b ≡ r) where
     by-number : readOf b ≡ elim (eqb (r .number) 0) as (λ _. Reading) [ true ↦ record { refusal = r; table = tableAt b } | false ↦ refusedReading r ]

@@ -1,46 +1,38 @@
--- The bytes of a table, little-endian, and the reader (document 01, 'The callback table').
-use mathlib.Core.Bool.{Bool, true, false, not, _&&_}
+-- A table's bytes and the reader (document 01, 'The callback table' and 'Where each refusal is tested').
+-- headerFields, recordFields: the fields of a header and of a record in their order. recordAt, tableAt: the values that bytes hold.
+-- spareAt, sparesAt: spare bytes that are not zero. readFault, readOf: the reader.
+use mathlib.Core.Bool.{Bool, true, false, cond, not, _&&_}
 use mathlib.Core.List.{List, [], _∷_}
 use Prim.Native.Nat.{ℕ, zero, suc, _+_, _*_}
 use lib.Dec.{eqb, ltb}
 use lib.ListN.{length, getD, set, replicate}
+use Rattle.numbers.specs.Numbers.{places, headerLength, recordLength, shortHeader, wrongLength}
 use Rattle.masks.specs.Mask.{gather}
-use Rattle.lent.specs.Bytes.{get2, zeros}
+use Rattle.lent.specs.Bytes.{zeros, Field, field, fieldsAt}
 use Rattle.table.specs.declared.Callback.{Callback}
-use Rattle.reader.specs.declared.Reading.{Reading}
 use Rattle.table.specs.declared.Refusal.{Refusal}
 use Rattle.table.specs.declared.Table.{Table}
-use Rattle.table.specs.Numbers.{places, headerLength, recordLength, shortHeader}
-use Rattle.table.specs.Values.{refuse, blank, blankTable}
-use Rattle.reader.specs.Rules.{faultWith}
+use Rattle.table.specs.Values.{refuse, orElse, callbackOf, tableOf, blank, blankTable}
+use Rattle.rules.specs.Rules.{headFault, bodyFault}
+use Rattle.reader.specs.declared.Reading.{Reading}
 
--- "12-27 eight two-byte entries E(1) to E(8)", of the record from byte k on
-abbrev pub costAt : List ℕ → ℕ → List ℕ
-costAt b k =
-    get2 b (k + 12)
-    ∷ get2 b (k + 14)
-    ∷ get2 b (k + 16)
-    ∷ get2 b (k + 18)
-    ∷ get2 b (k + 20)
-    ∷ get2 b (k + 22)
-    ∷ get2 b (k + 24)
-    ∷ get2 b (k + 26)
-    ∷ []
+-- edition and count; Q, P and H; eight spare bytes
+abbrev pub headerFields : List Field
+headerFields = field 1 2 ∷ field 2 3 ∷ field 1 8 ∷ []
 
--- the record from byte k on: kind, next, m, T, J, d, entries
+-- kind, next and m; a spare byte; T, J and d; two spare bytes; the eight entries; four spare bytes
+abbrev pub recordFields : List Field
+recordFields = field 1 3 ∷ field 1 1 ∷ field 2 3 ∷ field 1 2 ∷ field 2 8 ∷ field 1 4 ∷ []
+
+-- the numbers of a field, by its place in the list
+abbrev pub fieldOf : List (List ℕ) → ℕ → List ℕ
+fieldOf vs i = getD vs i []
+
+-- the record from byte k on
 unfoldable pub recordAt : List ℕ → ℕ → Callback
-recordAt b k =
-    record {
-      kind = getD b k 0;
-      next = getD b (k + 1) 0;
-      entries = getD b (k + 2) 0;
-      period = get2 b (k + 4);
-      jitter = get2 b (k + 6);
-      distance = get2 b (k + 8);
-      cost = costAt b k;
-    }
+recordAt b k = let vs : List (List ℕ) = fieldsAt recordFields b k 0 in callbackOf (fieldOf vs 0) (fieldOf vs 2) (fieldOf vs 4)
 
--- whether a spare byte of that record is not zero: bytes 3, 10-11 and 28-31
+-- whether a spare byte of that record is not zero
 unfoldable pub spareAt : List ℕ → ℕ → Bool
 spareAt b k = not (zeros b (k + 3) 1 && (zeros b (k + 10) 2 && zeros b (k + 28) 4))
 
@@ -53,28 +45,25 @@ unfoldable pub recordsTo : List ℕ → ℕ → List Callback
 recordsTo b zero = replicate places blank
 recordsTo b (suc i) = set (recordsTo b i) i (recordAt b (recordStart i))
 
--- the values that the bytes hold: byte 0 edition, 1 count, 2-3 Q, 4-5 P, 6-7 H, then the records
+-- the values that the bytes hold: the header, then the records
 unfoldable pub tableAt : List ℕ → Table
-tableAt b =
-    record {
-      edition = getD b 0 0;
-      count = getD b 1 0;
-      budget = get2 b 2;
-      period = get2 b 4;
-      horizon = get2 b 6;
-      callbacks = recordsTo b (getD b 1 0);
-    }
+tableAt b = let vs : List (List ℕ) = fieldsAt headerFields b 0 0 in tableOf (fieldOf vs 0) (fieldOf vs 1) (recordsTo b (getD b 1 0))
 
 -- the records with a spare byte not zero
 unfoldable pub sparesAt : List ℕ → ℕ
 sparesAt b = gather (λ i. spareAt b (recordStart i)) (getD b 1 0)
 
--- the refusal of a table's bytes, 1 to 14 in the order of the page
+-- 4, then 5 to 14
+unfoldable pub wholeFault : List ℕ → Refusal
+wholeFault b =
+    cond (not (eqb (length b) (recordStart (getD b 1 0)))) (refuse wrongLength 0) (bodyFault (not (zeros b 8 8)) (sparesAt b) (tableAt b))
+
+-- the refusal of a table's bytes, 1 to 14 in their order
 unfoldable pub readFault : List ℕ → Refusal
 readFault b =
     elim (ltb (length b) headerLength) [
       | true ↦ refuse shortHeader 0
-      | false ↦ faultWith (not (eqb (length b) (recordStart (getD b 1 0)))) (not (zeros b 8 8)) (sparesAt b) (tableAt b)
+      | false ↦ orElse (headFault (getD b 0 0) (getD b 1 0)) (wholeFault b)
     ]
 
 -- a refusal beside a blank table

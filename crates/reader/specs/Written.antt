@@ -2,24 +2,22 @@
 use mathlib.Core.List.{List, [], _∷_, _++_}
 use Prim.Native.Nat.{ℕ, zero, suc}
 use lib.ListN.{replicate}
-use Rattle.lent.specs.Bytes.{le2}
+use Rattle.lent.specs.Bytes.{fieldBytes}
 use Rattle.table.specs.declared.Callback.{Callback}
 use Rattle.table.specs.declared.Table.{Table}
-use Rattle.table.specs.Values.{callbackAt}
+use Rattle.table.specs.Values.{callbackBytes, callbackTicks, tableBytes, tableTicks, callbackAt}
+use Rattle.reader.specs.Format.{headerFields, recordFields}
 
--- two-byte numbers, one after the other
-unfoldable pub words : List ℕ → List ℕ
-words [] = []
-words (x ∷ xs) = le2 x ++ words xs
+-- what stands in the fields of a header, and of a record
+abbrev pub headerNumbers : Table → List (List ℕ)
+headerNumbers t = tableBytes t ∷ tableTicks t ∷ replicate 8 0 ∷ []
 
--- the header: edition, count, Q, P, H and eight spare bytes
-unfoldable pub headerBytes : Table → List ℕ
-headerBytes t = t .edition ∷ t .count ∷ (words (t .budget ∷ t .period ∷ t .horizon ∷ []) ++ replicate 8 0)
+abbrev pub recordNumbers : Callback → List (List ℕ)
+recordNumbers c = callbackBytes c ∷ replicate 1 0 ∷ callbackTicks c ∷ replicate 2 0 ∷ c .entries ∷ replicate 4 0 ∷ []
 
--- a record: kind, next, m, a spare byte, T, J, d, two spare bytes, the eight entries and four spare bytes
+-- a record in bytes
 unfoldable pub recordBytes : Callback → List ℕ
-recordBytes c =
-    c .kind ∷ c .next ∷ c .entries ∷ 0 ∷ (words (c .period ∷ c .jitter ∷ c .distance ∷ 0 ∷ []) ++ (words (c .cost) ++ replicate 4 0))
+recordBytes c = fieldBytes recordFields (recordNumbers c)
 
 -- the records of the first i slots
 unfoldable pub recordsBytes : Table → ℕ → List ℕ
@@ -28,4 +26,4 @@ recordsBytes t (suc i) = recordsBytes t i ++ recordBytes (callbackAt t i)
 
 -- the whole table, 16 + 32 × n bytes
 unfoldable pub written : Table → List ℕ
-written t = headerBytes t ++ recordsBytes t (t .count)
+written t = fieldBytes headerFields (headerNumbers t) ++ recordsBytes t (t .count)

@@ -1,27 +1,23 @@
 // A table from its bytes, little-endian: refusals 1 to 14, or the table.
-// rules: what is wrong with a table's values (refusals 2 to 14). links: refusals 11 to 14.
 
-use rules::fault_with;
+use numbers::HEADER_LENGTH;
+use numbers::PLACES;
+use numbers::RECORD_LENGTH;
+use numbers::SHORT_HEADER;
+use numbers::WRONG_LENGTH;
+use rules::body_fault;
+use rules::head_fault;
 use table::Callback;
 use table::Refusal;
 use table::Table;
-use table::numbers::EDITION_ONE;
-use table::numbers::HEADER_LENGTH;
-use table::numbers::PLACES;
-use table::numbers::RECORD_LENGTH;
-use table::numbers::SHORT_HEADER;
-use table::numbers::UNKNOWN_EDITION;
-use table::numbers::WRONG_COUNT;
-use table::numbers::WRONG_LENGTH;
+use table::refused;
 ghost use mathlib.Core.Path.{_≡_};
 ghost use Prim.Native.Nat.{ℕ, _+_, _≤_};
 ghost use lib.ListN.{length, getD};
-ghost use Rattle.table.specs.Numbers.{places};
-ghost use Rattle.table.specs.Values.{refuse, blankTable};
-ghost use Rattle.reader.specs.Format.{costAt, recordAt, spareAt, recordStart, sparesAt, tableAt, refusedReading, readOf};
-
-mod links;
-pub mod rules;
+ghost use Rattle.numbers.specs.Numbers.{places};
+ghost use Rattle.lent.specs.Bytes.{numbers as numbersAt};
+ghost use Rattle.table.specs.Values.{blankTable};
+ghost use Rattle.reader.specs.Format.{recordAt, spareAt, recordStart, sparesAt, tableAt, refusedReading, readOf};
 
 // What reading gives: the table, or a refusal beside a blank table.
 pub struct Reading {
@@ -29,31 +25,18 @@ pub struct Reading {
     pub table: Table,
 }
 
-// A refusal with its number and callback index.
-fn refused(number: u8, index: u8) -> Refusal
-    ensures { λ r. ⌜ r ≡ refuse number index ⌝ }
-{
-    Refusal {
-        number: number,
-        index: index,
-    }
-}
-
 // The eight cost entries of the record from byte `at` on.
-fn cost_at(b: &[u8], at: usize) -> [u16; 8]
+fn entries_at(b: &[u8], at: usize) -> [u16; 8]
     requires { ⌜ at + 32 ≤ length (now b) ⌝ }
-    ensures { λ r. ⌜ r ≡ costAt (now (b .entry)) at ⌝ }
+    ensures { λ r. ⌜ r ≡ numbersAt 2 (now (b .entry)) at 12 8 ⌝ }
 {
-    [
-        lent::get_u16(b, at + 12),
-        lent::get_u16(b, at + 14),
-        lent::get_u16(b, at + 16),
-        lent::get_u16(b, at + 18),
-        lent::get_u16(b, at + 20),
-        lent::get_u16(b, at + 22),
-        lent::get_u16(b, at + 24),
-        lent::get_u16(b, at + 26),
-    ]
+    let mut entries: [u16; 8] = [0; 8];
+    let mut i: usize = 0;
+    while i < 8 {
+        entries[i] = lent::get_u16(b, at + (12 + 2 * i));
+        i += 1;
+    }
+    entries
 }
 
 // The record from byte `at` on.
@@ -64,15 +47,15 @@ fn record_at(b: &[u8], at: usize) -> Callback
     let period = lent::get_u16(b, at + 4);
     let jitter = lent::get_u16(b, at + 6);
     let distance = lent::get_u16(b, at + 8);
-    let cost = cost_at(b, at);
+    let entries = entries_at(b, at);
     Callback {
         kind: b[at],
         next: b[at + 1],
-        entries: b[at + 2],
+        used: b[at + 2],
         period: period,
         jitter: jitter,
         distance: distance,
-        cost: cost,
+        entries: entries,
     }
 }
 
@@ -107,36 +90,13 @@ fn spares_at(b: &[u8]) -> u16
     spares
 }
 
-// A table of blank places.
-fn blank_table() -> Table
-    ensures { λ r. ⌜ r ≡ blankTable ⌝ }
-{
-    let blank = Callback {
-        kind: 0,
-        next: 0,
-        entries: 0,
-        period: 0,
-        jitter: 0,
-        distance: 0,
-        cost: [0; 8],
-    };
-    Table {
-        edition: 0,
-        count: 0,
-        budget: 0,
-        period: 0,
-        horizon: 0,
-        callbacks: [blank; 16],
-    }
-}
-
 // The values that the bytes hold.
 fn table_at(b: &[u8]) -> Table
     requires { ⌜ (16 ≤ length (now b)) × (getD (now b) 1 0 ≤ places) × (length (now b) ≡ recordStart (getD (now b) 1 0)) ⌝ }
     ensures { λ r. ⌜ r ≡ tableAt (now (b .entry)) ⌝ }
 {
     let n = b[1];
-    let mut t = blank_table();
+    let mut t = table::blank();
     let mut i: u8 = 0;
     while i < n {
         let c = record_at(b, HEADER_LENGTH + RECORD_LENGTH * (i as usize));
@@ -155,7 +115,7 @@ fn table_at(b: &[u8]) -> Table
 fn refusing(r: Refusal) -> Reading
     ensures { λ o. ⌜ o ≡ refusedReading r ⌝ }
 {
-    let t = blank_table();
+    let t = table::blank();
     Reading {
         refusal: r,
         table: t,
@@ -169,22 +129,17 @@ pub fn read(bytes: &[u8]) -> Reading
     if bytes.len() < HEADER_LENGTH {
         return refusing(refused(SHORT_HEADER, 0));
     }
-    if bytes[0] != EDITION_ONE {
-        return refusing(refused(UNKNOWN_EDITION, 0));
-    }
     let n = bytes[1];
-    if n == 0 {
-        return refusing(refused(WRONG_COUNT, 0));
-    }
-    if n > PLACES {
-        return refusing(refused(WRONG_COUNT, 0));
+    let head = head_fault(bytes[0], n);
+    if head.number != 0 {
+        return refusing(head);
     }
     if bytes.len() != HEADER_LENGTH + RECORD_LENGTH * (n as usize) {
         return refusing(refused(WRONG_LENGTH, 0));
     }
     let t = table_at(bytes);
     let spare = !lent::all_zero(bytes, 8, 16);
-    let r = fault_with(t, false, spare, spares_at(bytes));
+    let r = body_fault(t, spare, spares_at(bytes));
     if r.number != 0 {
         return refusing(r);
     }

@@ -5,7 +5,7 @@ use libc::STDOUT_FILENO;
 use sheet::Sheet;
 use table::Refusal;
 ghost use mathlib.Core.Path.{_≡_};
-ghost use Rattle.table.specs.Numbers.{places};
+ghost use Rattle.numbers.specs.Numbers.{places};
 ghost use Rattle.sheet.specs.Sheet.{sheetOf};
 
 // A line of two numbers, parted by a space.
@@ -16,7 +16,7 @@ fn print_pair(a: u64, b: u64) {
     io::write_all(STDOUT_FILENO, b"\n");
 }
 
-// One line, `refused`, number, index.
+// The line of a refusal: its number and its index behind the word `refused`.
 fn print_refusal(r: Refusal) {
     io::write_all(STDOUT_FILENO, b"refused ");
     print_pair(r.number as u64, r.index as u64);

@@ -3,28 +3,27 @@
 -- analysed-read, analysed-sheet: neither the reader nor the table's sheet refuses. analysed-at: the row holds the bounds.
 use mathlib.Core.Path.{_≡_, sym, ap, _∙_}
 use mathlib.Core.Logic.{_⊎_, inl, inr, _≢_}
-use mathlib.Core.Bool.{Bool, true, false}
+use mathlib.Core.Bool.{true}
 use mathlib.Core.List.{List}
 use Prim.Native.Nat.{ℕ, zero, suc, _≤_, _<_}
 use native.Mathlib.Omega.{arith}
 use lib.ListN.{length, getD}
 use borrow.Author.Tests.{eq-eqb, lt-ltb}
-use Rattle.lent.specs.Over.{over}
-use Rattle.curves.proofs.SumLaws.{le-or-lt}
-use Rattle.curves.proofs.LeastLaws.{lowest-none}
-use Rattle.curves.proofs.EveryLaws.{fails, never-both}
+use Rattle.ranges.proofs.SumLaws.{le-or-lt}
+use Rattle.ranges.proofs.LeastLaws.{lowest-none}
+use Rattle.ranges.proofs.EveryLaws.{never-both}
 use Rattle.table.specs.declared.Refusal.{Refusal}
 use Rattle.table.specs.declared.Table.{Table}
-use Rattle.table.specs.Numbers.{places}
-use Rattle.table.specs.Values.{refuse, accepted, orElse}
+use Rattle.numbers.specs.Numbers.{places, noWindow, tooMany, shortRow, mostWaiting}
+use Rattle.table.specs.Values.{refuse, accepted, orElse, lowestRefused}
 use Rattle.table.specs.Links.{isHead}
-use Rattle.reader.specs.Rules.{lowestRefused}
 use Rattle.reader.specs.Format.{tableAt, readFault}
-use Rattle.reader.proofs.RulesLaws.{both-passed, lowest-zero}
-use Rattle.sheet.specs.Sheet.{noWindow, tooMany, shortRow, mostWaiting, arrivalsOf, windowOf, boundOf, tooManyAt, sheetFault, analysisFault, boundsTo, rowOf}
-use Rattle.sheet.proofs.PartLaws.{crowded}
+use Rattle.sheet.specs.Sheet.{tooManyAt, sheetFault, analysisFault, rowOf}
 use Rattle.sheet.proofs.RowLaws.{row-at}
 use Rattle.sheet.proofs.RefusalLaws.{row-first, reader-first}
+use Rattle.table.proofs.RefusalLaws.{both-passed, lowest-zero}
+use Rattle.windows.specs.Bounds.{arrivalsOf, windowOf, boundOf}
+use Rattle.sheet.proofs.CrowdedLaws.{crowded}
 
 -- ---- a table's sheet
 
@@ -49,7 +48,7 @@ module _ (t : Table) (ok : (sheetFault t) .number ≡ 0) where
       go : (arrivalsOf t i (windowOf t) ≤ mostWaiting) ⊎ (mostWaiting < arrivalsOf t i (windowOf t)) → arrivalsOf t i (windowOf t) ≤ mostWaiting
       go (inl h) = h
       go (inr h) = absurd (never-both (crowded t (windowOf t) i) (rw (e, lt-ltb mostWaiting (arrivalsOf t i (windowOf t)) h))
-          (fails _ (lowest-none (crowded t (windowOf t)) (t .count) (neither .1) i l)))
+          (lowest-none (crowded t (windowOf t)) (t .count) (neither .1) i l))
 
 -- ---- bytes and a row
 
@@ -67,7 +66,7 @@ module _ (b : List ℕ) (k : ℕ) (ok : (analysisFault b k) .number ≡ 0) where
   pub analysed-sheet : (sheetFault (tableAt b)) .number ≡ 0
   analysed-sheet = both-passed (readFault b) (sheetFault (tableAt b)) none .1
 
--- "The reported bound of i is the number that the analyser wrote .. into place i of the row"
+-- the reported bound of a callback: what the analyser wrote into its place of the row
 pub analysed-at : (b row : List ℕ) → (analysisFault b (length row)) .number ≡ 0 → (i : ℕ) → i < (tableAt b) .count → getD (rowOf b row) i 0 ≡ boundOf (tableAt b) i
 unfolding rowOf
 analysed-at b row ok i l = rw (eq-eqb ((analysisFault b (length row)) .number) 0 ok, rowOf) (row-at (tableAt b) row ((tableAt b) .count) i l)

@@ -12,13 +12,13 @@ use borrow.Author.Tests.{eq-eqb, ne-eqb, lt-ltb, le-ltb}
 use Rattle.lent.specs.Over.{over}
 use Rattle.table.specs.declared.Refusal.{Refusal}
 use Rattle.table.specs.declared.Table.{Table}
-use Rattle.table.specs.Numbers.{places}
-use Rattle.table.specs.Values.{refuse, accepted, orElse}
-use Rattle.reader.specs.Rules.{lowestRefused}
+use Rattle.numbers.specs.Numbers.{places, noWindow, tooMany, shortRow}
+use Rattle.table.specs.Values.{refuse, accepted, orElse, lowestRefused}
 use Rattle.reader.specs.Format.{tableAt, readFault}
 use Rattle.sheet.specs.declared.Sheet.{Sheet}
-use Rattle.sheet.specs.Sheet.{noWindow, tooMany, shortRow, windowOf, tooManyAt, sheetFault, analysisFault, sheetOf, boundsTo, rowOf}
+use Rattle.sheet.specs.Sheet.{tooManyAt, sheetFault, analysisFault, sheetOf, boundsTo, rowOf}
 use Rattle.sheet.specs.Parts.{refusedSheet, tableSheet, tableRow}
+use Rattle.windows.specs.Bounds.{windowOf}
 
 -- the window and the row beside a refusal, or beside none
 abbrev Outcome : Sheet → List ℕ → Sheet → List ℕ → Type 0

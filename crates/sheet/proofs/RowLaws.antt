@@ -11,7 +11,8 @@ use lib.Seq.{getD-at}
 use Rattle.lent.specs.Over.{over}
 use Rattle.lent.proofs.Replace.{over-nil, over-more, over-length}
 use Rattle.table.specs.declared.Table.{Table}
-use Rattle.sheet.specs.Sheet.{boundOf, boundsTo}
+use Rattle.sheet.specs.Sheet.{boundsTo}
+use Rattle.windows.specs.Bounds.{boundOf}
 
 pub bounds-length : (t : Table) (i : ℕ) → length (boundsTo t i) ≡ i
 unfolding boundsTo

@@ -1,5 +1,3 @@
--- The sheet of document 01. Window: window, finish and bound over any curves. Sheet: the same of a table, the analyser's refusals, and the lent row.
--- Parts: what the analyser's inner functions compute and assume.
-pub mod Window
+-- Sheet: the analyser's refusals and the lent row (document 01, 'The sheet'). Parts: what its inner functions compute.
 pub mod Sheet
 pub mod Parts

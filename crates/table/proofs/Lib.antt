@@ -1,5 +1,7 @@
 -- What the functions rest on. NamedLaws: one pass over the records gives the slots named once and twice, and the heads.
--- PriorityLaws: the kinds' masks, and the first in priority. ChainLaws: the way back to a chain's head.
+-- What other crates cite. RefusalLaws: refusals one after the other. WalkLaws: without loops every walk ends, and a rank rises along it.
+-- Both. MaskLaws: whom a completion activates, and bits of a mask that belong to no head.
 pub mod NamedLaws
-pub mod PriorityLaws
-pub mod ChainLaws
+pub mod MaskLaws
+pub mod RefusalLaws
+pub mod WalkLaws

@@ -3,20 +3,19 @@
 use mathlib.Core.Path.{_≡_, refl, sym, ap, ap₂, _∙_}
 use mathlib.Core.Logic.{_⊎_, inl, inr, _≢_}
 use mathlib.Core.Bool.{Bool, true, false, not, _&&_}
-use Prim.Native.Nat.{ℕ, zero, suc, _+_, _-_, _*_, _%_, _^_, _≤_, _<_}
-use native.Mathlib.Nat.{pow-suc, one-mul, mod-eq-of-lt}
+use Prim.Native.Nat.{ℕ, zero, suc, _+_, _-_, _^_, _≤_, _<_}
 use native.Mathlib.Numerals.{add-one}
 use native.Mathlib.Decide.{ℕ-discrete}
 use native.Mathlib.Omega.{arith}
 use lib.Dec.{eqb, leb}
-use lib.Pow.{pow-pos, pow-mono, pow-lt}
+use lib.Pow.{pow-pos}
 use borrow.Author.Tests.{eq-eqb, ne-eqb, lt-ltb, le-ltb, le-leb, leb-true, leb-false}
 use Rattle.masks.specs.Mask.{has, withBit, gather}
 use Rattle.masks.specs.Parts.{except}
-use Rattle.masks.proofs.Slots.{has-with-same, has-with-other, has-except, with-lt, mask-ext, has-above}
-use Rattle.masks.proofs.Gather.{gather-lt, gather-in, gather-same}
-use Rattle.curves.specs.Sum.{sum, given}
-use Rattle.curves.proofs.SumLaws.{le-or-lt}
+use Rattle.masks.proofs.Slots.{has-with-same, has-with-other, has-except, with-lt, mask-ext}
+use Rattle.masks.proofs.Gather.{gather-lt, gather-in, gather-same, gather-none, below-has}
+use Rattle.ranges.specs.Sum.{sum, given}
+use Rattle.ranges.proofs.SumLaws.{le-or-lt}
 use Rattle.table.specs.declared.Names.{Names}
 use Rattle.table.specs.declared.Table.{Table}
 use Rattle.table.specs.Values.{nextOf}
@@ -56,14 +55,9 @@ module _ (t : Table) (k i : ℕ) where
   by-miss h = omega (arith, ap (λ (b : Bool). given b 1) (ne-eqb (nextOf t k) (suc i) h))
 
 module _ (t : Table) (n : ℕ) where
-  gather-none : (p : ℕ → Bool) (m : ℕ) → ((i : ℕ) → p i ≡ false) → gather p m ≡ 0
-  unfolding gather
-  gather-none p zero h = refl
-  gather-none p (suc m) h = ap₂ (λ (b : Bool) (x : ℕ). elim b [ true ↦ withBit (gather p m) m | false ↦ x ]) (h m) (gather-none p m h)
-
   pub names-start : record { once = 0; twice = 0 } ≡ namesTo t n 0
   unfolding namesTo namedBy sum
-  names-start = simp (gather-none (λ _. false) n (λ i. refl))
+  names-start = simp (gather-none (λ _. false) n (λ i _. refl))
 
   module _ (k : ℕ) where
     -- the same slots, but for the one that record k names
@@ -122,19 +116,6 @@ unfolding namesTo namesOf namedBy named
 names-end t = refl
 
 -- ---- the heads
-
--- `1 << n` in 32 bits
-pub one-shl : (n : ℕ) → n ≤ 16 → ((1 * 2 ^ n) % 4294967296 ≡ 2 ^ n) × (0 < 2 ^ n) × (2 ^ n ≤ 65536)
-one-shl n h = (ap (λ (x : ℕ). x % 2 ^ 32) (one-mul (2 ^ n)) ∙ mod-eq-of-lt (pow-lt {j = 32} (omega arith)), pow-pos n, pow-mono h)
-
--- the slots below n
-below-all : (n : ℕ) → gather (λ _. true) n ≡ 2 ^ n - 1
-unfolding gather withBit
-below-all zero = refl
-below-all (suc n) = simp (below-all n, has-above n (2 ^ n - 1) n (omega (arith, pow-pos n)) (omega arith)) (omega (arith, pow-suc 2 n, pow-pos n))
-
-pub below-has : (n i : ℕ) → i < n → has (2 ^ n - 1) i ≡ true
-below-has n i h = ap (λ (m : ℕ). has m i) (sym (below-all n)) ∙ gather-in (λ _. true) n i h
 
 unnamed : (x : ℕ) → not (leb 1 x) ≡ eqb x 0
 unnamed zero = refl

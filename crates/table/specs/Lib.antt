@@ -1,8 +1,6 @@
 -- The callback table of document 01.
--- Numbers: its constants and refusal numbers. Values: a record's and a table's values. Links: names, heads, chains, loops.
--- Priority: by kind, then by index. Parts: what inner functions give.
-pub mod Numbers
+-- Values: a record's and a table's values. Walk: steps along next. Links: names, heads, loops. Parts: what inner functions give.
 pub mod Values
+pub mod Walk
 pub mod Links
-pub mod Priority
 pub mod Parts

@@ -1,29 +1,38 @@
 // The callback table of document 01: its values, and what its links and kinds mean.
-// links: who is named, heads. chains: the head of a callback's chain. priority: the callbacks of each kind, and the first of a mask.
+// links: who is named, heads.
 
 ghost use mathlib.Core.Path.{_≡_};
-ghost use Rattle.table.specs.Values.{horizonOf};
+ghost use Prim.Native.Nat.{ℕ};
+ghost use Rattle.table.specs.Values.{refuse, blankTable, horizonOf};
 
-pub mod chains;
 pub mod links;
-pub mod numbers;
-pub mod priority;
 
 // The number and the callback index that document 01's table of refusals gives; number 0 where nothing is refused.
+#[repr(C)]
 pub struct Refusal {
     pub number: u8,
     pub index: u8,
 }
 
-// One record: kind, next, the number of cost entries, T, J, d, and the entries E(1) to E(8).
+// A refusal with its number and callback index.
+pub fn refused(number: u8, index: u8) -> Refusal
+    ensures { λ r. ⌜ r ≡ refuse number index ⌝ }
+{
+    Refusal {
+        number: number,
+        index: index,
+    }
+}
+
+// One record: kind, next, m (how many of the cost entries are used), T, J, d, and the entries E(1) to E(8).
 pub struct Callback {
     pub kind: u8,
     pub next: u8,
-    pub entries: u8,
+    pub used: u8,
     pub period: u16,
     pub jitter: u16,
     pub distance: u16,
-    pub cost: [u16; 8],
+    pub entries: [u16; 8],
 }
 
 // The header's numbers, H as given, and sixteen places. Nobody looks at those beyond count; a reading leaves them blank.
@@ -42,12 +51,27 @@ pub struct Names {
     pub twice: u16,
 }
 
-// The slots of each kind.
-pub struct Kinds {
-    pub timers: u16,
-    pub subscriptions: u16,
-    pub services: u16,
-    pub clients: u16,
+// A table of blank places with nothing in its header, as it stands beside a refusal.
+pub fn blank() -> Table
+    ensures { λ r. ⌜ r ≡ blankTable ⌝ }
+{
+    let place = Callback {
+        kind: 0,
+        next: 0,
+        used: 0,
+        period: 0,
+        jitter: 0,
+        distance: 0,
+        entries: [0; 8],
+    };
+    Table {
+        edition: 0,
+        count: 0,
+        budget: 0,
+        period: 0,
+        horizon: 0,
+        callbacks: [place; 16],
+    }
 }
 
 // The horizon in ticks: H, or 60,000 where H is 0.
@@ -55,7 +79,7 @@ pub fn horizon(t: Table) -> u16
     ensures { λ r. ⌜ r ≡ horizonOf t ⌝ }
 {
     if t.horizon == 0 {
-        return numbers::LONGEST;
+        return numbers::DEFAULT_HORIZON;
     }
     t.horizon
 }

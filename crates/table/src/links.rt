@@ -1,13 +1,12 @@
-// What the links of a table mean: who is named, and which callbacks are heads.
+// What the links of a table mean: who is named, which callbacks are heads, and whom a completion activates.
 
 use super::Names;
 use super::Table;
 ghost use mathlib.Core.Path.{_≡_};
-ghost use Prim.Native.Nat.{ℕ, _≤_, _<_, _-_, _^_};
+ghost use Prim.Native.Nat.{ℕ, _≤_, _<_};
 ghost use Rattle.masks.specs.Mask.{gather};
-ghost use Rattle.masks.specs.Parts.{except};
-ghost use Rattle.table.specs.Numbers.{places};
-ghost use Rattle.table.specs.Links.{isHead};
+ghost use Rattle.numbers.specs.Numbers.{places};
+ghost use Rattle.table.specs.Links.{isHead, nextAfter, foreign};
 ghost use Rattle.table.specs.Parts.{namesOf, nameOne};
 
 // The names with one more record counted, whose next is given; next counts where it is 1 to n.
@@ -53,21 +52,31 @@ pub fn named(t: Table) -> Names
     names
 }
 
-// The slots below n that the mask does not have.
-pub fn others(n: u8, mask: u16) -> u16
-    requires { ⌜ n ≤ places ⌝ }
-    ensures { λ r. ⌜ r ≡ except (2 ^ n - 1) mask ⌝ }
-{
-    let end: u32 = 1 << (n as u32);
-    let all = (end - 1) as u16;
-    all & !mask
-}
-
 // The heads: the slots below count that no record names.
 pub fn heads(t: Table) -> u16
     requires { ⌜ t .count ≤ places ⌝ }
     ensures { λ r. ⌜ r ≡ gather (isHead t) (t .count) ⌝ }
 {
     let names = named(t);
-    others(t.count, names.once)
+    masks::others(t.count, names.once)
+}
+
+// The callback that the completion of an index activates; 0 where the index is, and where its chain ends.
+pub fn next_after(t: Table, index: u8) -> u8
+    requires { ⌜ index ≤ places ⌝ }
+    ensures { λ r. ⌜ r ≡ nextAfter t index ⌝ }
+{
+    if index == 0 {
+        return 0;
+    }
+    let c = t.callbacks[(index - 1) as usize];
+    c.next
+}
+
+// The lowest bit of the mask that belongs to no head, plus 1; 0 where there is none.
+pub fn first_foreign(t: Table, mask: u16) -> u8
+    requires { ⌜ t .count ≤ places ⌝ }
+    ensures { λ r. ⌜ r ≡ foreign t mask ⌝ }
+{
+    masks::first_index(masks::outside(mask, heads(t)))
 }

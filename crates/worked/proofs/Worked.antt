@@ -4,31 +4,35 @@ use mathlib.Core.Bool.{Bool, true, false}
 use mathlib.Core.List.{List, [], _∷_, List·Memᴰ, List·Memᴰ·head, List·Memᴰ·tail}
 use Prim.Native.Nat.{ℕ}
 use lib.Dec.{T, eqb, eqb→eq}
+use Rattle.masks.specs.Mask.{has, withBit, withoutBit, gather, countOf}
+use Rattle.lent.specs.Bytes.{numbers, run, zeros, fieldsAt, fieldBytes}
+use Rattle.lent.specs.Over.{over}
+use Rattle.ranges.specs.Sum.{sum}
+use Rattle.ranges.specs.Least.{least, largest}
+use Rattle.ranges.specs.Every.{every, some}
 use Rattle.curves.specs.Arrivals.{ceiling, arrivals}
 use Rattle.curves.specs.Cost.{cost}
 use Rattle.curves.specs.Supply.{supply}
-use Rattle.curves.specs.Sum.{sum}
-use Rattle.curves.specs.Least.{least, lowestFrom, largest}
-use Rattle.curves.specs.Every.{every, some}
-use Rattle.curves.specs.Walk.{walk}
 use Rattle.curves.specs.Demand.{limit}
-use Rattle.masks.specs.Mask.{has, withBit, withoutBit, countOf, gather}
-use Rattle.lent.specs.Bytes.{zeros}
-use Rattle.lent.specs.Over.{over}
 use Rattle.table.specs.Values.{horizonOf}
-use Rattle.table.specs.Links.{linked, named, isHead, feeder, headFrom, headOf, onLoop}
-use Rattle.table.specs.Priority.{foremostFrom}
-use Rattle.reader.specs.Rules.{supplyFault, costFault, unusedFault, recordFault, recordsFrom, arrivalsFault, linksFault, faultWith}
-use Rattle.reader.specs.Format.{recordAt, spareAt, recordsTo, tableAt, sparesAt, readFault, readOf}
-use Rattle.reader.specs.Written.{words, headerBytes, recordBytes, recordsBytes, written}
-use Rattle.sheet.specs.Window.{covered, coveredFor, window, finish, bound}
-use Rattle.sheet.specs.Sheet.{arrivalsOf, costOf, supplyOf, windowOf, boundOf, tooManyAt, sheetFault, analysisFault, sheetOf, boundsTo, rowOf}
+use Rattle.table.specs.Walk.{walk}
+use Rattle.table.specs.Links.{linked, named, isHead, onLoop, nextAfter, foreign}
+use Rattle.priority.specs.Priority.{foremostFrom}
+use Rattle.chains.specs.Chains.{feeder, headFrom, headOf}
+use Rattle.link_rules.specs.LinkRules.{arrivalsFault, linksFault}
+use Rattle.rules.specs.Rules.{headFault, supplyFault, entriesFault, unusedFault, recordFault, recordsFrom, bodyFault, faultOf}
+use Rattle.reader.specs.Format.{recordAt, spareAt, recordsTo, tableAt, sparesAt, wholeFault, readFault, readOf}
+use Rattle.reader.specs.Written.{recordBytes, recordsBytes, written}
+use Rattle.windows.specs.Window.{covered, coveredFor, window, finish, bound}
+use Rattle.windows.specs.Bounds.{arrivalsOf, costOf, supplyOf, windowOf, boundOf}
+use Rattle.sheet.specs.Sheet.{tooManyAt, sheetFault, analysisFault, sheetOf, boundsTo, rowOf}
+use Rattle.queues.specs.Queues.{arrivedTo, arrived, counted, fullWith}
+use Rattle.turns.specs.Choosing.{polled, gatheredOf, choose}
+use Rattle.turns.specs.Turns.{turnOf, stepOf}
+use Rattle.faults.specs.Faults.{tableFault, beyondWrong, countWrong, cacheWrong, slotWrong, runWrong}
 use Rattle.executor.specs.State.{fresh, faulty}
-use Rattle.queues.specs.Choosing.{isPolled, gatheredOf, choose}
-use Rattle.faults.specs.Faults.{tableFault, beyondWrong, cacheWrong, countWrong, runWrong, slotWrong}
-use Rattle.queues.specs.Queues.{arrivedTo, arrived, activated, fullWith}
-use Rattle.executor.specs.Effect.{finishes, continues, worked, begun, served, effect}
-use Rattle.executor.specs.Tick.{foreign, nextAfter, full, tickFault, refused, tickOf}
+use Rattle.executor.specs.Effect.{instanceAt, left, served, effect}
+use Rattle.executor.specs.Tick.{full, tickFault, tickOf}
 use Rattle.executor.specs.Start.{startOf}
 use Rattle.worked.specs.Ticks.{saysOver}
 use Rattle.worked.specs.Worked.{Case, table, same, agree, Reckoned}
@@ -54,7 +58,7 @@ each {c} t (List·Memᴰ·head {x = x} {xs = cs} e) =
 each {c} t (List·Memᴰ·tail {x = x} {xs = cs} i) = each (both (same (x .reckoned) (x .paper)) (agree cs) t .1) i
 
 passes : T (agree table)
-unfolding table agree same supply arrivals ceiling cost sum least lowestFrom largest every some walk limit has withBit withoutBit countOf gather words headerBytes recordBytes recordsBytes written zeros recordAt spareAt recordsTo tableAt sparesAt readFault readOf supplyFault costFault unusedFault recordFault recordsFrom arrivalsFault linksFault faultWith linked named isHead feeder headFrom headOf onLoop foremostFrom horizonOf over covered coveredFor window finish bound arrivalsOf costOf supplyOf windowOf boundOf tooManyAt sheetFault analysisFault sheetOf boundsTo rowOf fresh isPolled tableFault beyondWrong countWrong cacheWrong slotWrong runWrong faulty arrivedTo arrived activated gatheredOf choose finishes continues worked begun served effect foreign nextAfter fullWith full tickFault refused tickOf startOf saysOver
+unfolding has withBit withoutBit gather countOf numbers run zeros fieldsAt fieldBytes over sum least largest every some ceiling arrivals cost supply limit horizonOf walk linked named isHead onLoop nextAfter foreign foremostFrom feeder headFrom headOf arrivalsFault linksFault headFault supplyFault entriesFault unusedFault recordFault recordsFrom bodyFault faultOf recordAt spareAt recordsTo tableAt sparesAt wholeFault readFault readOf recordBytes recordsBytes written covered coveredFor window finish bound arrivalsOf costOf supplyOf windowOf boundOf tooManyAt sheetFault analysisFault sheetOf boundsTo rowOf arrivedTo arrived counted fullWith polled gatheredOf choose turnOf stepOf tableFault beyondWrong countWrong cacheWrong slotWrong runWrong fresh faulty instanceAt left served effect full tickFault tickOf startOf saysOver table same agree
 passes = tt
 
 pub reckoned : Reckoned

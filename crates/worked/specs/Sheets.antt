@@ -1,26 +1,20 @@
 -- The tables of document 01's worked cases, and the numbers of their sheets, read from the tables' bytes as the analyser reads them.
--- "Where not given, H, J and next are 0, the edition is 1 and the kind is 2"; "Full supply means Q = P = 1".
+-- What a case leaves out has the value that the section states for it: edition 1, kind 2, and 0 for H, J and next; full supply is Q = P = 1.
 use mathlib.Core.List.{List, [], _∷_, _++_}
 use Prim.Native.Nat.{ℕ, _-_}
 use lib.ListN.{length, take, replicate}
 use Rattle.table.specs.declared.Callback.{Callback}
 use Rattle.table.specs.declared.Table.{Table}
-use Rattle.table.specs.Numbers.{places, entryPlaces}
+use Rattle.numbers.specs.Numbers.{places, entryPlaces, editionOne}
+use Rattle.table.specs.Values.{callbackOf, tableOf}
 use Rattle.reader.specs.Written.{written}
 use Rattle.sheet.specs.declared.Sheet.{Sheet}
-use Rattle.sheet.specs.Sheet.{sheetOf, rowOf, arrivalsOf, windowOf}
+use Rattle.sheet.specs.Sheet.{sheetOf, rowOf}
+use Rattle.windows.specs.Bounds.{arrivalsOf, windowOf}
 
 -- a callback of a kind with T, J, d and its entries, that ends its chain
 abbrev pub ofKind : ℕ → ℕ → ℕ → ℕ → List ℕ → Callback
-ofKind k T J d es = record {
-  kind = k;
-  next = 0;
-  entries = length es;
-  period = T;
-  jitter = J;
-  distance = d;
-  cost = es ++ replicate (entryPlaces - length es) 0;
-}
+ofKind k T J d es = callbackOf (k ∷ 0 ∷ length es ∷ []) (T ∷ J ∷ d ∷ []) (es ++ replicate (entryPlaces - length es) 0)
 
 abbrev pub timer : ℕ → ℕ → ℕ → List ℕ → Callback
 timer = ofKind 1
@@ -29,11 +23,11 @@ abbrev pub callback : ℕ → ℕ → ℕ → List ℕ → Callback
 callback = ofKind 2
 
 -- a table with Q, P and its callbacks
-abbrev pub tableOf : ℕ → ℕ → List Callback → Table
-tableOf Q P cs = record { edition = 1; count = length cs; budget = Q; period = P; horizon = 0; callbacks = cs }
+abbrev pub ofSupply : ℕ → ℕ → List Callback → Table
+ofSupply Q P cs = tableOf (editionOne ∷ length cs ∷ []) (Q ∷ P ∷ 0 ∷ []) cs
 
 abbrev pub fullSupply : List Callback → Table
-fullSupply = tableOf 1 1
+fullSupply = ofSupply 1 1
 
 -- the window and the refusal's number and index
 abbrev pub numbers : Sheet → List ℕ

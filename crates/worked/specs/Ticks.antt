@@ -1,24 +1,19 @@
 -- A machine started from the bytes of a table, and the numbers that its ticks say.
-use mathlib.Core.Bool.{Bool, true, false}
+use mathlib.Core.Bool.{true}
 use mathlib.Core.List.{List, [], _∷_, _++_}
 use Prim.Native.Nat.{ℕ}
 use Rattle.table.specs.declared.Table.{Table}
 use Rattle.reader.specs.Written.{written}
 use Rattle.executor.specs.declared.Machine.{Machine}
 use Rattle.executor.specs.declared.Ticked.{Ticked}
-use Rattle.answers.specs.Reply.{numberOf, callbackOf, instanceOf}
+use Rattle.answers.specs.Outcome.{numberOf, callbackOf, instanceOf, flag}
 use Rattle.executor.specs.Tick.{tickOf}
 use Rattle.executor.specs.Start.{startOf}
-
--- 1 for yes, 0 for no
-abbrev pub bit : Bool → ℕ
-bit true = 1
-bit false = 0
 
 -- what one tick says, six numbers: the answer (1 no supply, 2 idle, 3 ran, 4 finished; 0 refused), its callback and instance,
 -- whether one started, whether a polling point fell there, and how many the poll took
 abbrev pub says : Ticked → List ℕ
-says x = numberOf (x .reply) ∷ callbackOf (x .reply) ∷ instanceOf (x .reply) ∷ bit (x .started) ∷ bit (x .polled) ∷ x .gathered ∷ []
+says x = numberOf (x .outcome) ∷ callbackOf (x .outcome) ∷ instanceOf (x .outcome) ∷ flag (x .started) ∷ flag (x .polled) ∷ x .gathered ∷ []
 
 -- what a machine says in supplied ticks of one cost, a mask for each
 unfoldable pub saysOver : Machine → ℕ → List ℕ → List ℕ

@@ -10,7 +10,7 @@ use Rattle.curves.specs.Cost.{cost}
 use Rattle.curves.specs.Supply.{supply}
 use Rattle.table.specs.declared.Callback.{Callback}
 use Rattle.table.specs.declared.Table.{Table}
-use Rattle.worked.specs.Sheets.{tableOf, fullSupply, callback, timer, sheet, bounds, arrivalsInWindow}
+use Rattle.worked.specs.Sheets.{ofSupply, fullSupply, callback, timer, sheet, bounds, arrivalsInWindow}
 use Rattle.worked.specs.Ticks.{run}
 
 -- a case of the paper, P1 having the number 1
@@ -26,7 +26,7 @@ P k gives says = record { number = k; reckoned = gives; paper = says }
 abbrev pub lone : Callback
 lone = callback 10 0 10 (2 ∷ [])
 
--- P10's ticks 0 to 6, six numbers each (Ticks): "callback 2 runs in ticks 0-1, 3 in 2-3, 1 in 4-5. Polls at ticks 0, 4 and 6 take 2, 1 and 0."
+-- P10's seven ticks, six numbers each (Ticks): 2, 3 and 1 have two ticks each, and 1 waits for the second of the three polling points
 abbrev pub ticks0to6 : List ℕ
 ticks0to6 =
     (3 ∷ 2 ∷ 1 ∷ 1 ∷ 1 ∷ 2 ∷ [])
@@ -39,27 +39,27 @@ ticks0to6 =
 
 unfoldable pub table : List Case
 table =
-    -- Q = 2, P = 5: s
+    -- s of a supply of 2 ticks in 5
     P 1 (map (supply 2 5) (6 ∷ 7 ∷ 8 ∷ 11 ∷ 12 ∷ 17 ∷ 18 ∷ [])) (0 ∷ 1 ∷ 2 ∷ 2 ∷ 3 ∷ 5 ∷ 6 ∷ [])
-    -- T 10, J 15, d 2: a
+    -- a of arrivals whose jitter is longer than their period
     ∷ P 2 (map (arrivals 10 15 2) (0 ∷ 1 ∷ 2 ∷ 3 ∷ 5 ∷ 6 ∷ 12 ∷ [])) (0 ∷ 1 ∷ 1 ∷ 2 ∷ 2 ∷ 3 ∷ 3 ∷ [])
-    -- entries 4, 6: E
+    -- E of a run longer than the entries
     ∷ P 3 (map (cost (4 ∷ 6 ∷ [])) (3 ∷ [])) (10 ∷ [])
-    -- full supply, P2's arrivals, entry 4: W, accepted, the bound
+    -- a lone callback with the arrivals of P2: the window, no refusal, the bound
     ∷ P 4 (let t : Table = fullSupply (callback 10 15 2 (4 ∷ []) ∷ []) in sheet t ++ bounds t) (12 ∷ 0 ∷ 0 ∷ 7 ∷ [])
-    -- the same with 4, 6
+    -- a second entry, less than twice the first
     ∷ P 5 (let t : Table = fullSupply (callback 10 15 2 (4 ∷ 6 ∷ []) ∷ []) in sheet t ++ bounds t) (10 ∷ 0 ∷ 0 ∷ 5 ∷ [])
-    -- full supply, timer T = d = 10, entry 2; subscription T = d = 20, entry 3: W, accepted, the bounds
+    -- a timer and a subscription: the window, no refusal, both bounds
     ∷ P 6 (let t : Table = fullSupply (timer 10 0 10 (2 ∷ []) ∷ callback 20 0 20 (3 ∷ []) ∷ []) in sheet t ++ bounds t) (5 ∷ 0 ∷ 0 ∷ 5 ∷ 5 ∷ [])
-    -- Q 2, P 5, P6 with T = d = 50 and 100
-    ∷ P 7 (let t : Table = tableOf 2 5 (timer 50 0 50 (2 ∷ []) ∷ callback 100 0 100 (3 ∷ []) ∷ []) in sheet t ++ bounds t) (17 ∷ 0 ∷ 0 ∷ 17 ∷ 17 ∷ [])
-    -- full supply, T = d = 2, entry 2: W; at Q 1, P 2: refusal 15
+    -- both five times as rare, with the supply of P1
+    ∷ P 7 (let t : Table = ofSupply 2 5 (timer 50 0 50 (2 ∷ []) ∷ callback 100 0 100 (3 ∷ []) ∷ []) in sheet t ++ bounds t) (17 ∷ 0 ∷ 0 ∷ 17 ∷ 17 ∷ [])
+    -- a callback that takes all ticks: the window; with half of the ticks there is none, refusal 15
     ∷ P 8 (sheet (fullSupply (callback 2 0 2 (2 ∷ []) ∷ []))) (2 ∷ 0 ∷ 0 ∷ [])
-    ∷ P 8 (sheet (tableOf 1 2 (callback 2 0 2 (2 ∷ []) ∷ []))) (0 ∷ 15 ∷ 0 ∷ [])
-    -- full supply, T 200, d 1, entry 2: J 50,400 gives W and a(W), accepted; J 50,600 is refusal 16, index 1
+    ∷ P 8 (sheet (ofSupply 1 2 (callback 2 0 2 (2 ∷ []) ∷ []))) (0 ∷ 15 ∷ 0 ∷ [])
+    -- a jitter of 252 periods: the window, no refusal, and as many arrivals in it as may wait; of 253: refusal 16 at the callback
     ∷ P 9 (let t : Table = fullSupply (callback 200 50400 1 (2 ∷ []) ∷ []) in sheet t ++ arrivalsInWindow t) (510 ∷ 0 ∷ 0 ∷ 255 ∷ [])
     ∷ P 9 (sheet (fullSupply (callback 200 50600 1 (2 ∷ []) ∷ []))) (0 ∷ 16 ∷ 1 ∷ [])
-    -- three lone subscriptions, full supply, T = d = 10, entry 2, every tick supplied with cost 2, mask 6 at tick 0, 1 at tick 1
+    -- three alike: the second and the third activated in the first tick, the first in the tick after
     ∷ P 10 (run (fullSupply (lone ∷ lone ∷ lone ∷ [])) 2 (6 ∷ 1 ∷ 0 ∷ 0 ∷ 0 ∷ 0 ∷ 0 ∷ [])) ticks0to6
     ∷ []
 

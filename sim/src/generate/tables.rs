@@ -67,7 +67,7 @@ fn kind(random: &mut Random) -> Kind {
     *random.pick(&[Kind::Timer, Kind::Subscription, Kind::Service, Kind::Client])
 }
 
-/// Entries that rise strictly, mostly by less than the first.
+/// Strictly increasing entries, mostly in steps of at most the first.
 fn entries(random: &mut Random, largest: u64) -> Vec<u64> {
     let used = if random.chance(50) {
         1

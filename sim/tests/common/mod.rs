@@ -39,7 +39,7 @@ pub fn supplied(budget: u64, period: u64, callbacks: Vec<Callback>) -> Table {
     }
 }
 
-/// "Full supply means Q = P = 1."
+/// A table with full supply, Q and P being 1 (document 01, 'Reckoned by hand').
 pub fn full(callbacks: Vec<Callback>) -> Table {
     supplied(1, 1, callbacks)
 }

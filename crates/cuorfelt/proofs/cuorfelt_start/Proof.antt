@@ -8,18 +8,10 @@ use Rattle.cuorfelt.proofs.cuorfelt_start.Statement.{statement}
 use Rattle.cuorfelt.proofs.cuorfelt_start.Tie as tie
 
 returns : tie.Need-returns
-returns c = start-short _ _ (c .if1 .taken)
-
-start-requires : tie.Need-start-requires
-start-requires c κs = search needs
-
-refusal-requires : tie.Need-refusal-requires
-refusal-requires c κs = search needs
+returns c = let x = start-short _ _ (c .before .if1 .taken) in (c .refused .ensures ∙ x .0, x .1)
 
 returns-2 : tie.Need-returns-2
-returns-2 c =
-    let x = start-refused _ _ (c .before .before .before .before .before .if1 .left) (c .before .before .before .before .start .ensures) (c .before .if2 .taken) in
-    (c .refusal .ensures ∙ x .0, x .1)
+returns-2 c = let s = c .before .before .before in start-refused _ _ (s .before .if1 .left) (s .start .ensures) (c .if2 .taken)
 
 copy-requires : tie.Need-copy-requires
 copy-requires c κs = omega (arith, start-size _ (c .before .before .before .before .start .ensures) (c .before .if2 .left))
@@ -28,35 +20,29 @@ sub-zero : tie.Need-sub-zero
 sub-zero c = omega (arith, start-size _ (c .before .before .before .before .before .before .before .before .start .ensures) (c .before .before .before .before .before .if2 .left))
 
 zero-requires : tie.Need-zero-requires
-zero-requires c κs = omega (arith, c .before .before .before .before .before .before .before .before .before .if1 .left, c .before .before .before .copy .kept .0, start-size _ (c .before .before .before .before .before .before .before .before .start .ensures) (c .before .before .before .before .before .if2 .left))
-
-refusal-requires-2 : tie.Need-refusal-requires-2
-refusal-requires-2 c κs = search needs
-
-same-length : tie.Need-same-length
-same-length c = search needs
+zero-requires c κs =
+    let s = c .before .before .before .before .before .before .before .before in
+    omega (arith, s .before .if1 .left, c .before .before .before .copy .kept .0, start-size _ (s .start .ensures) (c .before .before .before .before .before .if2 .left))
 
 returns-3 : tie.Need-returns-3
 returns-3 c =
-    let s = c .before .before .before .before .before .before .before .before .before .before .before .before .before .before .before .before .args in
-    let x =
-    start-done (now (s .table)) (now (s .state)) (c .before .before .before .before .before .before .before .before .before .before .before .before .before .if1 .left) (c .before .before .before .before .before .before .before .before .before .before .before .before .start .ensures) (c .before .before .before .before .before .before .before .before .before .if2 .left)
-    (λ i. omega (arith, c .before .before .before .before .before .before .before .before .before .before .before .before .before .before .before .shared-slice-known .given i))
-    (c .before .before .before .before .before .before .before .copy .ensures)
-    (c .before .before .before .zero .ensures) in
-    (c .refusal2 .ensures ∙ x .0, x .1)
+    let s = c .before .before .before .before .before .before .before .before .before .before .before in
+    let p = s .before .before .before in
+    start-done (now (p .before .args .table)) (now (p .before .args .state)) (s .before .if1 .left) (s .start .ensures) (c .before .before .before .before .before .before .before .before .if2 .left)
+    (λ i. omega (arith, p .shared-slice-known .given i))
+    (c .before .before .before .before .before .before .copy .ensures)
+    (c .before .before .zero .ensures)
 
 pub cuorfelt-start-spec : {M : Type 1} → statement M
 cuorfelt-start-spec =
     tie.close
     (tie.spec
+    (λ c κs. search needs)
     returns
-    start-requires
-    refusal-requires
+    (λ c κs. search needs)
     returns-2
     copy-requires
     sub-zero
     zero-requires
-    refusal-requires-2
-    same-length
+    (λ c. search needs)
     returns-3)

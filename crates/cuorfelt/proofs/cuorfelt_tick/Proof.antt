@@ -11,15 +11,6 @@ use borrow.Author.Needs.{needs}
 use Rattle.cuorfelt.proofs.cuorfelt_tick.Statement.{statement}
 use Rattle.cuorfelt.proofs.cuorfelt_tick.Tie as tie
 
-unpack-requires : tie.Need-unpack-requires
-unpack-requires c κs = search needs
-
-no-state-requires : tie.Need-no-state-requires
-no-state-requires c κs = search needs
-
-same-length : tie.Need-same-length
-same-length c = search needs
-
 returns : tie.Need-returns
 returns c =
     let x = tick-none _ _ _ _ (laid-no _ (c .before .before .before .unpack .ensures) (not-true _ (c .before .if1 .taken))) in
@@ -31,33 +22,22 @@ tick-checked-requires c κs =
     let yes = not-false _ (c .before .if1 .left) in
     ap (λ (m : Machine). tableFault (m .table)) (laid-machine _ e yes) ∙ table-faultless _ (laid-yes _ e yes)
 
-said-of-requires : tie.Need-said-of-requires
-said-of-requires c κs = search needs
-
-same-length-2 : tie.Need-same-length-2
-same-length-2 c = search needs
-
 returns-2 : tie.Need-returns-2
 returns-2 c =
     let e = c .before .before .before .before .before .before .before .unpack .ensures in
     let yes = not-false _ (c .before .before .before .before .before .if1 .left) in
-    tick-refused _ _ _ _ (laid-yes _ e yes) (laid-machine _ e yes) (c .before .before .before .tick-checked .ensures) (c .before .before .said-of .ensures) (c .if2 .taken)
+    tick-refused _ _ _ _ (laid-yes _ e yes) (laid-machine _ e yes) (c .before .before .before .tick-checked .ensures) (c .before .before .reply .ensures) (c .if2 .taken)
 
 pack-tail-requires : tie.Need-pack-tail-requires
-pack-tail-requires c κs =
-    let l = laid-yes _ (c .before .before .before .before .before .before .before .before .before .unpack .ensures) (not-false _ (c .before .before .before .before .before .before .before .if1 .left)) in
-    (l .size, l .spare)
-
-same-length-3 : tie.Need-same-length-3
-same-length-3 c = search needs
+pack-tail-requires c κs = laid-yes _ (c .before .before .before .before .before .before .before .before .before .unpack .ensures) (not-false _ (c .before .before .before .before .before .before .before .if1 .left)) .size
 
 returns-3 : tie.Need-returns-3
 returns-3 c =
-    let e = c .before .before .before .before .before .before .before .before .before .before .before .before .unpack .ensures in
+    let u = c .before .before .before .before .before .before .before .before .before .before .before .before in
     let yes = not-false _ (c .before .before .before .before .before .before .before .before .before .before .if1 .left) in
     let p = c .before .before .pack-tail .ensures in
-    tick-done _ _ _ _ (laid-yes _ e yes) (laid-machine _ e yes) (c .before .before .before .before .before .before .before .before .tick-checked .ensures) (c .before .before .before .before .before .before .before .said-of .ensures)
-    (λ i. omega (arith, c .before .before .before .before .before .before .before .before .before .before .before .before .before .before .slice-known .given i))
+    tick-done _ _ _ _ (laid-yes _ (u .unpack .ensures) yes) (laid-machine _ (u .unpack .ensures) yes) (c .before .before .before .before .before .before .before .before .tick-checked .ensures) (c .before .before .before .before .before .before .before .reply .ensures)
+    (λ i. omega (arith, u .before .before .slice-known .given i))
     (c .before .before .before .before .before .if2 .left)
     (p .0)
     (p .1)
@@ -67,14 +47,14 @@ pub cuorfelt-tick-spec : {M : Type 1} → statement M
 cuorfelt-tick-spec =
     tie.close
     (tie.spec
-    unpack-requires
-    no-state-requires
-    same-length
+    (λ c κs. search needs)
+    (λ c κs. search needs)
+    (λ c. search needs)
     returns
     tick-checked-requires
-    said-of-requires
-    same-length-2
+    (λ c κs. search needs)
+    (λ c. search needs)
     returns-2
     pack-tail-requires
-    same-length-3
+    (λ c. search needs)
     returns-3)

@@ -10,27 +10,6 @@ returns : tie.Need-returns
 unfolding arrivals
 returns c = (rw (c .if1 .taken), omega arith)
 
-add-periodic : tie.Need-add-periodic
-add-periodic c = search needs
-
-sub-periodic : tie.Need-sub-periodic
-sub-periodic c = search needs
-
-add-periodic-2 : tie.Need-add-periodic-2
-add-periodic-2 c = search needs
-
-div-periodic : tie.Need-div-periodic
-div-periodic c = search needs
-
-sub-spaced : tie.Need-sub-spaced
-sub-spaced c = search needs
-
-add-spaced : tie.Need-add-spaced
-add-spaced c = search needs
-
-div-spaced : tie.Need-div-spaced
-div-spaced c = search needs
-
 returns-2 : tie.Need-returns-2
 unfolding ceiling
 returns-2 c = omega (
@@ -52,12 +31,12 @@ arrivals-spec =
     tie.close
     (tie.spec
     returns
-    add-periodic
-    sub-periodic
-    add-periodic-2
-    div-periodic
-    sub-spaced
-    add-spaced
-    div-spaced
+    (λ c. search needs)
+    (λ c. search needs)
+    (λ c. search needs)
+    (λ c. search needs)
+    (λ c. search needs)
+    (λ c. search needs)
+    (λ c. search needs)
     returns-2
     returns-3)

@@ -34,29 +34,11 @@ read : (c : lts.Else1 reads.Pre reads.Post)
     → entry (c .before .args .t1) (c .before .args .count % c .before .args .used) ≡ getD (c .before .args .t1) (c .before .args .count % c .before .args .used - 1) 0
 read c = entry-at (c .before .args .t1) (c .before .args .count % c .before .args .used) (omega arith)
 
-div-rounds : tie.Need-div-rounds
-div-rounds c = search needs
-
 cast-rounds : tie.Need-cast-rounds
 cast-rounds c = omega (arith, div-le-self (c .args .count) (c .args .used))
 
-sub-whole : tie.Need-sub-whole
-sub-whole c = search needs
-
-mul-whole : tie.Need-mul-whole
-mul-whole c = search needs
-
-array-read-whole : tie.Need-array-read-whole
-array-read-whole c = search needs
-
-cast-whole : tie.Need-cast-whole
-cast-whole c = search needs
-
 mul-whole-2 : tie.Need-mul-whole-2
 mul-whole-2 c = omega (arith, within c)
-
-rem-left : tie.Need-rem-left
-rem-left c = search needs
 
 cast-left : tie.Need-cast-left
 cast-left c = omega (arith, mod-le (c .args .count) (c .args .used))
@@ -64,17 +46,11 @@ cast-left c = omega (arith, mod-le (c .args .count) (c .args .used))
 returns : tie.Need-returns
 returns c = omega (arith, whole (c .before), within (c .before), entry-none (c .before .args .t1) (c .before .args .count % c .before .args .used) (c .if1 .taken))
 
-sub-result : tie.Need-sub-result
-sub-result c = search needs
-
 mul-result : tie.Need-mul-result
 mul-result c = omega (arith, last c)
 
 array-read-result : tie.Need-array-read-result
 array-read-result c = omega (arith, last c)
-
-cast-result : tie.Need-cast-result
-cast-result c = search needs
 
 add-result : tie.Need-add-result
 add-result c = omega (arith, within (c .before), read c)
@@ -86,19 +62,19 @@ pub cost-spec : {M : Type 1} → statement M
 cost-spec =
     tie.close
     (tie.spec
-    div-rounds
+    (λ c. search needs)
     cast-rounds
-    sub-whole
-    mul-whole
-    array-read-whole
-    cast-whole
+    (λ c. search needs)
+    (λ c. search needs)
+    (λ c. search needs)
+    (λ c. search needs)
     mul-whole-2
-    rem-left
+    (λ c. search needs)
     cast-left
     returns
-    sub-result
+    (λ c. search needs)
     mul-result
     array-read-result
-    cast-result
+    (λ c. search needs)
     add-result
     returns-2)

@@ -6,29 +6,17 @@ use Rattle.curves.proofs.SupplyLaws.{periods, supply-early, supply-past
 use Rattle.curves.proofs.supply.Statement.{statement}
 use Rattle.curves.proofs.supply.Tie as tie
 
-sub-gap : tie.Need-sub-gap
-sub-gap c = search needs
-
 returns : tie.Need-returns
 returns c = (sym (supply-early (c .before .args .budget) (c .before .args .period) (c .before .args .length) (c .if1 .taken)), omega arith)
 
-div-k : tie.Need-div-k
-div-k c = search needs
-
 mul-whole : tie.Need-mul-whole
 mul-whole c = omega (arith, periods (c .before .args .budget) (c .before .args .period) (c .before .args .length) (c .before .pre .1))
-
-mul-begun : tie.Need-mul-begun
-mul-begun c = search needs
 
 mul-begun-2 : tie.Need-mul-begun-2
 mul-begun-2 c = omega (arith, periods (c .before .args .budget) (c .before .args .period) (c .before .args .length) (c .before .pre .1))
 
 add-begun : tie.Need-add-begun
 add-begun c = omega (arith, periods (c .before .args .budget) (c .before .args .period) (c .before .args .length) (c .before .pre .1))
-
-sub-result : tie.Need-sub-result
-sub-result c = search needs
 
 add-result : tie.Need-add-result
 add-result c = omega (arith, periods (c .before .before .args .budget) (c .before .before .args .period) (c .before .before .args .length) (c .before .before .pre .1))
@@ -43,14 +31,14 @@ pub supply-spec : {M : Type 1} → statement M
 supply-spec =
     tie.close
     (tie.spec
-    sub-gap
+    (λ c. search needs)
     returns
-    div-k
+    (λ c. search needs)
     mul-whole
-    mul-begun
+    (λ c. search needs)
     mul-begun-2
     add-begun
-    sub-result
+    (λ c. search needs)
     add-result
     returns-2
     returns-3)

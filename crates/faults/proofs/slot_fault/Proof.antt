@@ -5,22 +5,13 @@ use borrow.Author.Needs.{needs}
 use Rattle.faults.proofs.slot_fault.Statement.{statement}
 use Rattle.faults.proofs.slot_fault.Tie as tie
 
-beyond-fault-requires : tie.Need-beyond-fault-requires
-beyond-fault-requires c κs = search needs
-
 returns : tie.Need-returns
 unfolding slotWrong
 returns c = simp (sym (c .before .beyond-fault .ensures) ∙ c .if1 .taken)
 
-count-fault-requires : tie.Need-count-fault-requires
-count-fault-requires c κs = search needs
-
 returns-2 : tie.Need-returns-2
 unfolding slotWrong
 returns-2 c = simp (sym (c .before .before .before .beyond-fault .ensures) ∙ c .before .before .if1 .left, sym (c .before .count-fault .ensures) ∙ c .if2 .taken)
-
-cache-fault-requires : tie.Need-cache-fault-requires
-cache-fault-requires c κs = search needs
 
 returns-3 : tie.Need-returns-3
 unfolding slotWrong
@@ -30,9 +21,9 @@ pub slot-fault-spec : {M : Type 1} → statement M
 slot-fault-spec =
     tie.close
     (tie.spec
-    beyond-fault-requires
+    (λ c κs. search needs)
     returns
-    count-fault-requires
+    (λ c κs. search needs)
     returns-2
-    cache-fault-requires
+    (λ c κs. search needs)
     returns-3)

@@ -9,69 +9,24 @@ use mathlib.Core.Bool.{true}
 use borrow.Author.Tests.{not-false}
 use Rattle.table.specs.declared.Table.{Table}
 use Rattle.executor.specs.declared.Machine.{Machine}
-use Rattle.layout.specs.Layout.{tableEnd, tablePart, unpackedWith}
+use Rattle.layout.specs.Layout.{tableEnd, tablePart, tailAt, machineOf, unpacked}
 use Rattle.layout.proofs.LayoutLaws.{Laid, end-before}
 use Rattle.layout.proofs.UnpackingLaws.{not-laid, is-laid, not-zero, part-number, part-table}
 use borrow.Author.Needs.{needs}
 use Rattle.layout.proofs.unpack.Statement.{statement}
 use Rattle.layout.proofs.unpack.Tie as tie
 
-no-state-requires : tie.Need-no-state-requires
-no-state-requires c κs = search needs
-
 returns : tie.Need-returns
 returns c = c .no-state .ensures ∙ not-laid _ (λ l. c .before .if1 .taken (l .size))
-
-shared-slice-read-n : tie.Need-shared-slice-read-n
-shared-slice-read-n c = search needs
-
-no-state-requires-2 : tie.Need-no-state-requires-2
-no-state-requires-2 c κs = search needs
 
 returns-2 : tie.Need-returns-2
 returns-2 c = c .no-state2 .ensures ∙ not-laid _ (λ l. omega (arith, c .before .if2 .taken, end-before _ l))
 
-cast-end : tie.Need-cast-end
-cast-end c = search needs
-
-mul-end : tie.Need-mul-end
-mul-end c = search needs
-
-add-end : tie.Need-add-end
-add-end c = search needs
-
-all-zero-requires : tie.Need-all-zero-requires
-all-zero-requires c κs = search needs
-
-no-state-requires-3 : tie.Need-no-state-requires-3
-no-state-requires-3 c κs = search needs
-
 returns-3 : tie.Need-returns-3
 returns-3 c = c .no-state3 .ensures ∙ not-laid _ (λ l. not-zero _ _ (c .before .before .all-zero .ensures) (c .before .if3 .taken) (l .gap))
 
-all-zero-requires-2 : tie.Need-all-zero-requires-2
-all-zero-requires-2 c κs = search needs
-
-no-state-requires-4 : tie.Need-no-state-requires-4
-no-state-requires-4 c κs = search needs
-
 returns-4 : tie.Need-returns-4
 returns-4 c = c .no-state4 .ensures ∙ not-laid _ (λ l. not-zero _ _ (c .before .before .all-zero2 .ensures) (c .before .if4 .taken) (l .spare))
-
-sub-read : tie.Need-sub-read
-sub-read c = search needs
-
-part-read-start : tie.Need-part-read-start
-part-read-start c = search needs
-
-part-read-end : tie.Need-part-read-end
-part-read-end c = search needs
-
-read-requires : tie.Need-read-requires
-read-requires c κs = search needs
-
-no-state-requires-5 : tie.Need-no-state-requires-5
-no-state-requires-5 c κs = search needs
 
 returns-5 : tie.Need-returns-5
 returns-5 c =
@@ -79,10 +34,8 @@ returns-5 c =
     let own : take (tableEnd b - 0) b ≡ tablePart b = ap (λ (n : ℕ). take n b) (sub-zero (tableEnd b)) in
     c .no-state5 .ensures ∙ not-laid _ (λ l. c .before .if5 .taken (part-number b (c .before .before .before .before .read .ensures) own ∙ l .read))
 
-unpack-with-requires : tie.Need-unpack-with-requires
-unpack-with-requires c κs = search needs
-
 returns-6 : tie.Need-returns-6
+unfolding unpacked
 returns-6 c =
     let s = c .before .before .before .before .before .before .before .before .before .before .before .before .before .before .before in
     let b = now (s .args .state) in
@@ -95,32 +48,32 @@ returns-6 c =
       spare = sym (c .before .before .before .before .before .before .before .before .all-zero2 .ensures) ∙ not-false _ (c .before .before .before .before .before .before .before .if4 .left);
     } in
     ap (λ (m : Machine). record { laid = true; machine = m })
-    (c .unpack-with .ensures ∙ ap (λ (t : Table). unpackedWith t b) (part-table b read own (c .before .before .if5 .left)))
+    (c .unpack-with .ensures ∙ ap (λ (t : Table). machineOf t (tailAt b)) (part-table b read own (c .before .before .if5 .left)))
     ∙ sym (is-laid b l)
 
 pub unpack-spec : {M : Type 1} → statement M
 unpack-spec =
     tie.close
     (tie.spec
-    no-state-requires
+    (λ c κs. search needs)
     returns
-    shared-slice-read-n
-    no-state-requires-2
+    (λ c. search needs)
+    (λ c κs. search needs)
     returns-2
-    cast-end
-    mul-end
-    add-end
-    all-zero-requires
-    no-state-requires-3
+    (λ c. search needs)
+    (λ c. search needs)
+    (λ c. search needs)
+    (λ c κs. search needs)
+    (λ c κs. search needs)
     returns-3
-    all-zero-requires-2
-    no-state-requires-4
+    (λ c κs. search needs)
+    (λ c κs. search needs)
     returns-4
-    sub-read
-    part-read-start
-    part-read-end
-    read-requires
-    no-state-requires-5
+    (λ c. search needs)
+    (λ c. search needs)
+    (λ c. search needs)
+    (λ c κs. search needs)
+    (λ c κs. search needs)
     returns-5
-    unpack-with-requires
+    (λ c κs. search needs)
     returns-6)

@@ -6,14 +6,8 @@ use borrow.Author.Needs.{needs}
 use Rattle.lent.proofs.put_u8.Statement.{statement}
 use Rattle.lent.proofs.put_u8.Tie as tie
 
-slice-write-b : tie.Need-slice-write-b
-slice-write-b c = search needs
-
-same-length : tie.Need-same-length
-same-length c = search needs
-
 returns : tie.Need-returns
 returns c = over-one (now (c .args .b)) (c .args .at) (c .args .x) (omega arith)
 
 pub put-u8-spec : {M : Type 1} → statement M
-put-u8-spec = tie.close (tie.spec slice-write-b same-length returns)
+put-u8-spec = tie.close (tie.spec (λ c. search needs) (λ c. search needs) returns)

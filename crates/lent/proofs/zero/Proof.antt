@@ -20,20 +20,11 @@ abbrev μ-loop : tie.MeasureT-loop
 loop-holds : tie.Need-loop-holds Inv-loop μ-loop
 loop-holds c = (omega arith, sym (over-nil _ _))
 
-add-b : tie.Need-add-b Inv-loop μ-loop
-add-b c = search needs
-
 slice-write-b : tie.Need-slice-write-b Inv-loop μ-loop
 slice-write-b c =
     let a = c .before .before .args in
     let l = c .before .loop in
     omega (arith, ap length (l .inv .1), over-replicate-length (now (a .b)) (a .at) 0 (l .i) (a .count) (omega arith) (omega arith))
-
-add-i : tie.Need-add-i Inv-loop μ-loop
-add-i c = search needs
-
-loop-less : tie.Need-loop-less Inv-loop μ-loop
-loop-less c = search needs
 
 loop-again : tie.Need-loop-again Inv-loop μ-loop
 loop-again c =
@@ -63,10 +54,10 @@ zero-spec =
     Inv-loop
     μ-loop
     loop-holds
-    add-b
+    (λ c. search needs)
     slice-write-b
-    add-i
-    loop-less
+    (λ c. search needs)
+    (λ c. search needs)
     loop-again
     same-length
     returns)

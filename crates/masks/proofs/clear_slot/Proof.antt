@@ -4,11 +4,8 @@ use borrow.Author.Needs.{needs}
 use Rattle.masks.proofs.clear_slot.Statement.{statement}
 use Rattle.masks.proofs.clear_slot.Tie as tie
 
-shl-result : tie.Need-shl-result
-shl-result c = search needs
-
 returns : tie.Need-returns
 returns c = clear-law (c .args .mask) (c .args .slot) (c .pre) (c .fits .mask .fits)
 
 pub clear-slot-spec : {M : Type 1} → statement M
-clear-slot-spec = tie.close (tie.spec shl-result returns)
+clear-slot-spec = tie.close (tie.spec (λ c. search needs) returns)

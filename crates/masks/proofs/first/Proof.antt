@@ -1,6 +1,6 @@
 -- Trailing zeros go over the halves of the mask, firstFrom over its slots: the same number.
 use Rattle.masks.specs.Parts.{firstOf}
-use Rattle.masks.proofs.Lowest.{trailing-first}
+use Rattle.masks.proofs.Search.{trailing-first}
 use Rattle.masks.proofs.first.Statement.{statement}
 use Rattle.masks.proofs.first.Tie as tie
 

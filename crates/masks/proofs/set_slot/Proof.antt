@@ -4,11 +4,8 @@ use borrow.Author.Needs.{needs}
 use Rattle.masks.proofs.set_slot.Statement.{statement}
 use Rattle.masks.proofs.set_slot.Tie as tie
 
-shl-result : tie.Need-shl-result
-shl-result c = search needs
-
 returns : tie.Need-returns
 returns c = set-law (c .args .mask) (c .args .slot) (c .pre)
 
 pub set-slot-spec : {M : Type 1} → statement M
-set-slot-spec = tie.close (tie.spec shl-result returns)
+set-slot-spec = tie.close (tie.spec (λ c. search needs) returns)

@@ -4,11 +4,8 @@ use borrow.Author.Needs.{needs}
 use Rattle.masks.proofs.test_slot.Statement.{statement}
 use Rattle.masks.proofs.test_slot.Tie as tie
 
-shl-result : tie.Need-shl-result
-shl-result c = search needs
-
 returns : tie.Need-returns
 returns c = test-law (c .args .mask) (c .args .slot) (c .pre)
 
 pub test-slot-spec : {M : Type 1} → statement M
-test-slot-spec = tie.close (tie.spec shl-result returns)
+test-slot-spec = tie.close (tie.spec (λ c. search needs) returns)

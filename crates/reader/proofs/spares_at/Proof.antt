@@ -1,4 +1,4 @@
--- `reader::spares_at` meets its contract: after i records the mask has those of them with a spare byte not zero. Assumes nothing.
+-- `spares_at` meets its contract: after i records the mask has those of them with a spare byte not zero. Assumes nothing.
 use mathlib.Core.Path.{_≡_, refl, sym, ap, _∙_}
 use mathlib.Core.Logic.{⊎-elim}
 use mathlib.Core.Bool.{Bool}
@@ -10,10 +10,10 @@ use denote.Ref.{now}
 use lib.ListN.{getD}
 use Rattle.masks.specs.Mask.{gather}
 use Rattle.reader.specs.Format.{spareAt, recordStart, sparesAt}
-use Rattle.reader.proofs.FormatLaws.{gather-took, gather-left}
 use borrow.Author.Needs.{needs}
 use Rattle.reader.proofs.spares_at.Statement.{statement}
 use Rattle.reader.proofs.spares_at.Tie as tie
+use Rattle.masks.proofs.Gather.{gather-took, gather-left}
 
 abbrev spareIn : List ℕ → ℕ → Bool
 spareIn b i = spareAt b (recordStart i)
@@ -24,36 +24,9 @@ Inv-loop b n spares₀ i₀ spares i = (i ≤ getD b 1 0) × (spares ≡ gather 
 abbrev μ-loop : tie.MeasureT-loop
 μ-loop b n spares₀ i₀ spares i = n - i
 
-shared-slice-read-n : tie.Need-shared-slice-read-n Inv-loop μ-loop
-shared-slice-read-n c = search needs
-
 loop-holds : tie.Need-loop-holds Inv-loop μ-loop
 unfolding gather
 loop-holds c = (omega arith, refl)
-
-cast-spare-at : tie.Need-cast-spare-at Inv-loop μ-loop
-cast-spare-at c = search needs
-
-mul-spare-at : tie.Need-mul-spare-at Inv-loop μ-loop
-mul-spare-at c = search needs
-
-add-spare-at : tie.Need-add-spare-at Inv-loop μ-loop
-add-spare-at c = search needs
-
-spare-at-requires : tie.Need-spare-at-requires Inv-loop μ-loop
-spare-at-requires c κs = search needs
-
-cast-set-slot : tie.Need-cast-set-slot Inv-loop μ-loop
-cast-set-slot c = search needs
-
-set-slot-requires : tie.Need-set-slot-requires Inv-loop μ-loop
-set-slot-requires c κs = search needs
-
-add-i : tie.Need-add-i Inv-loop μ-loop
-add-i c = search needs
-
-loop-less : tie.Need-loop-less Inv-loop μ-loop
-loop-less c = search needs
 
 loop-again : tie.Need-loop-again Inv-loop μ-loop
 loop-again c =
@@ -78,15 +51,15 @@ spares-at-spec =
     (tie.spec
     Inv-loop
     μ-loop
-    shared-slice-read-n
+    (λ c. search needs)
     loop-holds
-    cast-spare-at
-    mul-spare-at
-    add-spare-at
-    spare-at-requires
-    cast-set-slot
-    set-slot-requires
-    add-i
-    loop-less
+    (λ c. search needs)
+    (λ c. search needs)
+    (λ c. search needs)
+    (λ c κs. search needs)
+    (λ c. search needs)
+    (λ c κs. search needs)
+    (λ c. search needs)
+    (λ c. search needs)
     loop-again
     returns)

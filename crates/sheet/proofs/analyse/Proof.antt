@@ -7,7 +7,7 @@ use Rattle.reader.specs.declared.Reading.{Reading}
 use Rattle.table.specs.declared.Refusal.{Refusal}
 use Rattle.table.specs.declared.Table.{Table}
 use Rattle.reader.specs.Format.{tableAt, readFault}
-use Rattle.reader.specs.Parts.{Sound}
+use Rattle.rules.specs.Parts.{Sound}
 use Rattle.reader.proofs.Accepted.{reading-is, read-table, read-sound}
 use Rattle.sheet.specs.Parts.{refusedSheet, tableSheet, tableRow}
 use Rattle.sheet.proofs.RefusalLaws.{short-row, misread, well-read}
@@ -25,17 +25,8 @@ passed c = ap (λ (x : Refusal). x .number) (sym (refusal-read (c .before .befor
 table-read : (c : tie.Else2) → c .before .before .before .read .result .table ≡ tableAt (c .before .before .before .before .before .before .before .args .bytes .now)
 table-read c = ap (λ (x : Reading). x .table) (c .before .before .before .read .ensures) ∙ read-table _ (passed c)
 
-refused-requires : tie.Need-refused-requires
-refused-requires c κs = search needs
-
 returns : tie.Need-returns
 returns c = let o = short-row _ _ (c .before .if1 .taken) in (c .refused .ensures ∙ sym (o .0), sym (o .1))
-
-read-requires : tie.Need-read-requires
-read-requires c κs = search needs
-
-refused-requires-2 : tie.Need-refused-requires-2
-refused-requires-2 c κs = search needs
 
 returns-2 : tie.Need-returns-2
 returns-2 c =
@@ -47,9 +38,6 @@ returns-2 c =
 sheet-of-requires : tie.Need-sheet-of-requires
 sheet-of-requires c κs =
     (subst Sound (sym (table-read (c .before .before))) (read-sound _ (passed (c .before .before))), omega arith)
-
-same-length : tie.Need-same-length
-same-length c = search needs
 
 returns-3 : tie.Need-returns-3
 returns-3 c =
@@ -63,11 +51,12 @@ pub analyse-spec : {M : Type 1} → statement M
 analyse-spec =
     tie.close
     (tie.spec
-    refused-requires
+    (λ c. search needs)
+    (λ c κs. search needs)
     returns
-    read-requires
-    refused-requires-2
+    (λ c κs. search needs)
+    (λ c κs. search needs)
     returns-2
     sheet-of-requires
-    same-length
+    (λ c. search needs)
     returns-3)

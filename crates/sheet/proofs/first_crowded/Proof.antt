@@ -3,13 +3,14 @@ use mathlib.Core.Path.{_≡_, sym, subst, _∙_}
 use Prim.Native.Nat.{ℕ, _-_, _≤_}
 use borrow.Author.Needs.{needs}
 use native.Mathlib.Omega.{arith}
-use Rattle.curves.proofs.LeastLaws.{restSlots, slots-start, slots-hit, slots-miss, slots-end}
+use Rattle.ranges.proofs.LeastLaws.{restSlots, slots-start, slots-hit, slots-miss, slots-end}
 use Rattle.table.specs.Values.{callbackAt}
 use Rattle.sheet.specs.Sheet.{tooManyAt}
-use Rattle.sheet.specs.Parts.{Spaced}
-use Rattle.sheet.proofs.PartLaws.{crowded, crowded-at, head-spaced}
+use Rattle.windows.proofs.PartLaws.{head-spaced}
 use Rattle.sheet.proofs.first_crowded.Statement.{statement}
 use Rattle.sheet.proofs.first_crowded.Tie as tie
+use Rattle.windows.specs.Parts.{Spaced}
+use Rattle.sheet.proofs.CrowdedLaws.{crowded, crowded-at}
 
 abbrev Inv-loop : tie.InvT-loop
 Inv-loop window t heads n i₀ i = (i ≤ n) × (restSlots (crowded t window) n i ≡ tooManyAt t window)
@@ -28,14 +29,8 @@ loop-holds : tie.Need-loop-holds Inv-loop μ-loop
 unfolding tooManyAt
 loop-holds c = (omega arith, slots-start (crowded (c .args .t1) (c .args .window)) (c .args .t1 .count))
 
-cast-head : tie.Need-cast-head Inv-loop μ-loop
-cast-head c = search needs
-
 array-read-head : tie.Need-array-read-head Inv-loop μ-loop
 array-read-head c = omega (arith, c .before .before .pre .0 .sound .few)
-
-cast-c : tie.Need-cast-c Inv-loop μ-loop
-cast-c c = search needs
 
 mul-c : tie.Need-mul-c Inv-loop μ-loop
 mul-c c = omega (arith, c .before .before .pre .0 .sound .few)
@@ -57,12 +52,6 @@ returns c =
     let at = c .before .before .before .before in
     sym (slots-hit _ _ _ (c .before .before .before .loop-test .taken) (tested (c .before) ∙ c .if1 .taken)) ∙ at .loop .inv .1
 
-add-i : tie.Need-add-i Inv-loop μ-loop
-add-i c = search needs
-
-loop-less : tie.Need-loop-less Inv-loop μ-loop
-loop-less c = search needs
-
 loop-again : tie.Need-loop-again Inv-loop μ-loop
 loop-again c =
     let at = c .before .before .before .before in
@@ -78,15 +67,15 @@ first-crowded-spec =
     Inv-loop
     μ-loop
     loop-holds
-    cast-head
+    (λ c. search needs)
     array-read-head
-    cast-c
+    (λ c. search needs)
     mul-c
     element-copy-out-c
     is-crowded-requires
     add-result
     returns
-    add-i
-    loop-less
+    (λ c. search needs)
+    (λ c. search needs)
     loop-again
     returns-2)

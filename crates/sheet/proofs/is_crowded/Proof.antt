@@ -1,5 +1,6 @@
 -- `is_crowded` meets its contract: the two tests in turn.
 use borrow.Author.Tests.{eq-eqb, ne-eqb}
+use borrow.Author.Needs.{needs}
 use Rattle.sheet.specs.Parts.{crowdedBy}
 use Rattle.sheet.proofs.is_crowded.Statement.{statement}
 use Rattle.sheet.proofs.is_crowded.Tie as tie
@@ -16,4 +17,4 @@ unfolding crowdedBy
 returns-2 c = simp (eq-eqb _ _ (c .before .if1 .left), c .arrivals .ensures .0)
 
 pub is-crowded-spec : {M : Type 1} → statement M
-is-crowded-spec = tie.close (tie.spec returns arrivals-requires returns-2)
+is-crowded-spec = tie.close (tie.spec returns arrivals-requires (λ c. search needs) returns-2)

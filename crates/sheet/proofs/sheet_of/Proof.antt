@@ -4,28 +4,16 @@ use Prim.Native.Nat.{ℕ}
 use native.Mathlib.Omega.{arith}
 use Rattle.table.specs.Values.{accepted}
 use Rattle.sheet.specs.Sheet.{tooManyAt}
-use Rattle.sheet.proofs.TableLaws.{horizon-in}
+use Rattle.windows.proofs.TableLaws.{horizon-in}
 use Rattle.sheet.proofs.RefusalLaws.{fault-none, fault-crowded, fault-passed}
 use borrow.Author.Needs.{needs}
 use Rattle.sheet.proofs.sheet_of.Statement.{statement}
 use Rattle.sheet.proofs.sheet_of.Tie as tie
 
-heads-of-requires : tie.Need-heads-of-requires
-heads-of-requires c κs = search needs
-
-horizon-requires : tie.Need-horizon-requires
-horizon-requires c κs = search needs
-
-cast-window : tie.Need-cast-window
-cast-window c = search needs
-
 window-requires : tie.Need-window-requires
 window-requires c κs =
     let start = c .before .before .before in
     (c .before .heads-of .ensures, c .horizon .ensures, omega (arith, c .horizon .ensures, horizon-in (start .args .t) (start .pre .0)))
-
-refused-requires : tie.Need-refused-requires
-refused-requires c κs = search needs
 
 returns : tie.Need-returns
 returns c =
@@ -33,27 +21,12 @@ returns c =
     let o = fault-none (start .args .t) _ (sym (c .before .before .window .ensures .0) ∙ c .before .if1 .taken) in
     (c .refused .ensures ∙ sym (o .0), sym (o .1))
 
-first-crowded-requires : tie.Need-first-crowded-requires
-first-crowded-requires c κs = search needs
-
-refused-requires-2 : tie.Need-refused-requires-2
-refused-requires-2 c κs = search needs
-
 returns-2 : tie.Need-returns-2
 returns-2 c =
     let start = c .before .before .before .before .before .before .before .before in
     let w = c .before .before .before .before .window .ensures .0 in
     let o = fault-crowded (start .args .t) _ _ (λ z. c .before .before .before .if1 .left (w ∙ z)) (ap (tooManyAt (start .args .t)) (sym w) ∙ sym (c .before .before .first-crowded .ensures)) (c .before .if2 .taken) in
     (c .refused2 .ensures ∙ sym (o .0), sym (o .1))
-
-write-bounds-requires : tie.Need-write-bounds-requires
-write-bounds-requires c κs = search needs
-
-cast-t6 : tie.Need-cast-t6
-cast-t6 c = search needs
-
-same-length : tie.Need-same-length
-same-length c = search needs
 
 returns-3 : tie.Need-returns-3
 returns-3 c =
@@ -66,16 +39,16 @@ pub sheet-of-spec : {M : Type 1} → statement M
 sheet-of-spec =
     tie.close
     (tie.spec
-    heads-of-requires
-    horizon-requires
-    cast-window
+    (λ c κs. search needs)
+    (λ c κs. search needs)
+    (λ c. search needs)
     window-requires
-    refused-requires
+    (λ c κs. search needs)
     returns
-    first-crowded-requires
-    refused-requires-2
+    (λ c κs. search needs)
+    (λ c κs. search needs)
     returns-2
-    write-bounds-requires
-    cast-t6
-    same-length
+    (λ c κs. search needs)
+    (λ c. search needs)
+    (λ c. search needs)
     returns-3)

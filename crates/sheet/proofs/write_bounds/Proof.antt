@@ -23,9 +23,6 @@ kept c =
     let start = c .before .before .before in
     ap length (c .loop .inv .1) ∙ row-length (start .args .t) _ (c .loop .i) (omega (arith, start .pre .0 .sound .few))
 
-cast-n : tie.Need-cast-n Inv-loop μ-loop
-cast-n c = search needs
-
 loop-holds : tie.Need-loop-holds Inv-loop μ-loop
 loop-holds c = (omega arith, row-start _ _)
 
@@ -34,20 +31,8 @@ bound-requires c κs =
     let start = c .before .before .before .before in
     (start .pre .0, c .loop-test .taken, start .pre .1, start .pre .2)
 
-cast-row : tie.Need-cast-row Inv-loop μ-loop
-cast-row c = search needs
-
-mul-row : tie.Need-mul-row Inv-loop μ-loop
-mul-row c = search needs
-
 slice-write-row : tie.Need-slice-write-row Inv-loop μ-loop
 slice-write-row c = omega (arith, kept (c .before .before), c .before .before .before .before .before .pre .0 .sound .few)
-
-add-i : tie.Need-add-i Inv-loop μ-loop
-add-i c = search needs
-
-loop-less : tie.Need-loop-less Inv-loop μ-loop
-loop-less c = search needs
 
 loop-again : tie.Need-loop-again Inv-loop μ-loop
 loop-again c =
@@ -71,14 +56,14 @@ write-bounds-spec =
     (tie.spec
     Inv-loop
     μ-loop
-    cast-n
+    (λ c. search needs)
     loop-holds
     bound-requires
-    cast-row
-    mul-row
+    (λ c. search needs)
+    (λ c. search needs)
     slice-write-row
-    add-i
-    loop-less
+    (λ c. search needs)
+    (λ c. search needs)
     loop-again
     same-length
     returns)

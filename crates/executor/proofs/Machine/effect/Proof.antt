@@ -1,24 +1,32 @@
 -- The arrivals, and then what the supply allows.
-use mathlib.Core.Path.{_∙_}
-use Rattle.executor.proofs.EffectLaws.{ready-arrived, effect-supplied, effect-unsupplied}
+use mathlib.Core.Path.{_∙_, sym, subst}
 use borrow.Author.Needs.{needs}
+use Rattle.numbers.specs.Numbers.{mostWaiting}
+use Rattle.executor.specs.declared.Machine.{Machine}
+use Rattle.executor.specs.Parts.{Admissible}
+use Rattle.executor.proofs.ValidLaws.{admissible-arrived}
+use Rattle.executor.proofs.EffectLaws.{effect-supplied, effect-unsupplied}
 use Rattle.executor.proofs.Machine.effect.Statement.{statement}
 use Rattle.executor.proofs.Machine.effect.Tie as tie
 
-arrive-requires : tie.Need-arrive-requires
-arrive-requires c κs = search needs
+-- the state after the arrivals
+arrived : (c : tie.After-arrive) → Admissible 256 (c .arrive .result) (c .before .args .cost)
+arrived c =
+    subst (λ (m : Machine). Admissible 256 m (c .before .args .cost)) (sym (c .arrive .ensures))
+    (admissible-arrived (c .before .args .self) _ _ mostWaiting (c .before .pre .0) (c .before .pre .1))
 
 serve-requires : tie.Need-serve-requires
-serve-requires c κs = (ready-arrived (c .before .before .before .args .self) _ _ (search needs) (c .before .arrive .ensures) (c .before .before .before .pre .0), c .before .before .before .pre .1)
+serve-requires c κs = arrived (c .before)
 
 returns : tie.Need-returns
-returns c = c .serve .ensures ∙ effect-supplied (c .before .before .before .before .args .self) _ _ _ _ (c .before .before .arrive .ensures) (c .before .if1 .taken)
+returns c = c .serve .ensures ∙ effect-supplied (c .before .before .before .args .self) _ _ _ _ (c .before .before .arrive .ensures) (c .before .if1 .taken)
 
-add-m : tie.Need-add-m
-add-m c = search needs
+unsupplied-requires : tie.Need-unsupplied-requires
+unsupplied-requires c κs = arrived (c .before) .early
 
 returns-2 : tie.Need-returns-2
-returns-2 c = effect-unsupplied (c .before .before .before .before .args .self) _ _ _ _ (c .before .before .arrive .ensures) (c .before .if1 .left)
+returns-2 c = c .unsupplied .ensures ∙ effect-unsupplied (c .before .before .before .args .self) _ _ _ _ (c .before .before .arrive .ensures) (c .before .if1 .left)
 
 pub effect-spec : {M : Type 1} → statement M
-effect-spec = tie.close (tie.spec arrive-requires serve-requires returns add-m returns-2)
+effect-spec =
+    tie.close (tie.spec (λ c κs. search needs) serve-requires returns unsupplied-requires returns-2)

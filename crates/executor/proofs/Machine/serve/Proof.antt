@@ -1,47 +1,34 @@
--- Whoever runs works; otherwise whoever is chosen starts, and nobody is chosen in an idle tick.
-use mathlib.Core.Path.{_∙_}
-use Rattle.executor.proofs.EffectLaws.{workable-running, running-units, workable-begun, chosen-is, served-running, served-idle, served-begun}
-use borrow.Author.Needs.{needs}
+-- The turn, and what step 4 leaves of it.
+use mathlib.Core.Path.{ap, _∙_, sym}
+use Rattle.executor.proofs.ValidLaws.{table-sound}
+use Rattle.executor.proofs.Cases.{completes, has-units, finisher}
+use Rattle.executor.proofs.EffectLaws.{served-law}
+use Rattle.turns.specs.declared.Step.{Step}
+use Rattle.answers.specs.Outcome.{finishedOf}
+use Rattle.answers.specs.declared.Outcome.the-variants.{Answered}
 use Rattle.executor.proofs.Machine.serve.Statement.{statement}
 use Rattle.executor.proofs.Machine.serve.Tie as tie
 
-work-requires : tie.Need-work-requires
-work-requires c κs = (workable-running _ (c .before .before .pre .0) (c .if1 .taken), running-units _ (c .before .before .pre .0) (c .if1 .taken))
+turn-requires : tie.Need-turn-requires
+turn-requires c κs = table-sound _ (c .before .before .pre .valid .table) .few
+
+instance-requires : tie.Need-instance-requires
+instance-requires c κs i e = (let a = completes (c .before .before .before .args .self) _ (c .before .before .before .pre) _ (c .turn .ensures) i e in (a .inside, a .counted))
+
+step-requires : tie.Need-step-requires
+step-requires c κs = has-units (c .before .before .before .before .args .self) _ (c .before .before .before .before .pre) _ (c .before .turn .ensures)
+
+after-requires : tie.Need-after-requires
+after-requires c κs = (
+  c .before .before .before .before .before .pre .early,
+  λ i e.
+      completes (c .before .before .before .before .before .args .self) _ (c .before .before .before .before .before .pre) _ (c .before .before .turn .ensures) i
+      (finisher _ _ i (ap (λ (s : Step). finishedOf (Answered (s .answer))) (sym (c .step .ensures)) ∙ e)),
+)
 
 returns : tie.Need-returns
-returns c = c .work .ensures ∙ served-running _ _ (c .before .if1 .taken)
-
-waiting-slots-requires : tie.Need-waiting-slots-requires
-waiting-slots-requires c κs = search needs
-
-kinds-requires : tie.Need-kinds-requires
-kinds-requires c κs = search needs
-
-choose-requires : tie.Need-choose-requires
-choose-requires c κs = search needs
-
-idle-requires : tie.Need-idle-requires
-idle-requires c κs = search needs
-
-returns-2 : tie.Need-returns-2
-returns-2 c = c .idle .ensures ∙ served-idle _ _ (c .before .before .before .before .before .before .before .before .if1 .left) _ (chosen-is _ _ _ _ _ _ (c .before .before .before .before .before .before .before .before .before .before .pre .0 .counted) (c .before .before .before .before .kinds .ensures) (c .before .before .before .before .before .waiting-slots .ensures) (c .before .before .before .choose .ensures)) (c .before .if2 .taken)
-
-work-requires-2 : tie.Need-work-requires-2
-work-requires-2 c κs = (workable-begun _ (c .before .before .before .before .before .before .before .before .before .pre .0) _ (chosen-is _ _ _ _ _ _ (c .before .before .before .before .before .before .before .before .before .pre .0 .counted) (c .before .before .before .kinds .ensures) (c .before .before .before .before .waiting-slots .ensures) (c .before .before .choose .ensures)) (c .if2 .left), c .before .before .before .before .before .before .before .before .before .pre .1)
-
-returns-3 : tie.Need-returns-3
-returns-3 c = c .work2 .ensures ∙ served-begun _ _ (c .before .before .before .before .before .before .before .before .if1 .left) _ (chosen-is _ _ _ _ _ _ (c .before .before .before .before .before .before .before .before .before .before .pre .0 .counted) (c .before .before .before .before .kinds .ensures) (c .before .before .before .before .before .waiting-slots .ensures) (c .before .before .before .choose .ensures)) (c .before .if2 .left)
+returns c = c .after .ensures ∙ served-law (c .before .before .before .before .before .before .args .self) _ _ _ _ (c .before .before .before .turn .ensures) (c .before .before .instance .ensures) (c .before .step .ensures)
 
 pub serve-spec : {M : Type 1} → statement M
 serve-spec =
-    tie.close
-    (tie.spec
-    work-requires
-    returns
-    waiting-slots-requires
-    kinds-requires
-    choose-requires
-    idle-requires
-    returns-2
-    work-requires-2
-    returns-3)
+    tie.close (tie.spec turn-requires instance-requires step-requires after-requires returns)

@@ -10,12 +10,6 @@ use borrow.Author.Needs.{needs}
 use Rattle.executor.proofs.Machine.start.Statement.{statement}
 use Rattle.executor.proofs.Machine.start.Tie as tie
 
-read-requires : tie.Need-read-requires
-read-requires c κs = search needs
-
-fresh-requires : tie.Need-fresh-requires
-fresh-requires c κs = search needs
-
 abbrev started : Refusal → Machine → Started
 started r m = record { refusal = r; machine = m }
 
@@ -26,4 +20,4 @@ returns c =
     ∙ ap (λ (x : Reading). started (x .refusal) (fresh (x .table))) (c .before .before .before .read .ensures)
 
 pub start-spec : {M : Type 1} → statement M
-start-spec = tie.close (tie.spec read-requires fresh-requires returns)
+start-spec = tie.close (tie.spec (λ c κs. search needs) (λ c κs. search needs) returns)

@@ -6,22 +6,13 @@ use borrow.Author.Needs.{needs}
 use Rattle.executor.proofs.Machine.tick.Statement.{statement}
 use Rattle.executor.proofs.Machine.tick.Tie as tie
 
-table-fault-requires : tie.Need-table-fault-requires
-table-fault-requires c κs = search needs
-
-refuse-requires : tie.Need-refuse-requires
-refuse-requires c κs = search needs
-
 returns : tie.Need-returns
 returns c = c .refuse .ensures ∙ tick-faulty (c .before .before .before .before .args .self) _ _ _ (faulty-table (c .before .before .before .before .args .self) _ (c .before .before .table-fault .ensures) (c .before .if1 .taken))
 
 tick-checked-requires : tie.Need-tick-checked-requires
 tick-checked-requires c κs = sym (c .before .table-fault .ensures) ∙ c .if1 .left
 
-returns-2 : tie.Need-returns-2
-returns-2 c = search needs
-
 pub tick-spec : {M : Type 1} → statement M
 tick-spec =
     tie.close
-    (tie.spec table-fault-requires refuse-requires returns tick-checked-requires returns-2)
+    (tie.spec (λ c κs. search needs) (λ c κs. search needs) returns tick-checked-requires (λ c. search needs))

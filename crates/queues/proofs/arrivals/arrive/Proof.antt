@@ -4,10 +4,10 @@ use Prim.Native.Nat.{ℕ}
 use native.Mathlib.Omega.{arith}
 use borrow.Author.Needs.{needs}
 use Rattle.queues.specs.Queues.{arrived}
-use Rattle.queues.proofs.SlotLaws.{lowest-set, without-less}
 use Rattle.queues.proofs.ArrivedLaws.{Counting, counting-one, arrived-none}
 use Rattle.queues.proofs.arrivals.arrive.Statement.{statement}
 use Rattle.queues.proofs.arrivals.arrive.Tie as tie
+use Rattle.masks.proofs.Search.{lowest-set, without-less}
 
 abbrev Inv-loop : tie.InvT-loop
 Inv-loop mask counts₀ rest₀ counts rest = Counting mask counts₀ rest counts
@@ -21,15 +21,6 @@ loop-holds c = record { small = search needs; sized = search needs; room = λ i 
 lowest-requires : tie.Need-lowest-requires Inv-loop μ-loop
 lowest-requires c κs = c .loop-test .taken
 
-cast-i : tie.Need-cast-i Inv-loop μ-loop
-cast-i c = search needs
-
-mul-counts : tie.Need-mul-counts Inv-loop μ-loop
-mul-counts c = search needs
-
-array-read-counts : tie.Need-array-read-counts Inv-loop μ-loop
-array-read-counts c = search needs
-
 add-counts : tie.Need-add-counts Inv-loop μ-loop
 add-counts c =
     record {
@@ -40,15 +31,6 @@ add-counts c =
                 (lowest-set (c .before .before .loop .rest) (c .lowest .result) (c .lowest .ensures)),
           );
     }
-
-mul-counts-2 : tie.Need-mul-counts-2 Inv-loop μ-loop
-mul-counts-2 c = search needs
-
-array-write-counts : tie.Need-array-write-counts Inv-loop μ-loop
-array-write-counts c = search needs
-
-clear-slot-requires : tie.Need-clear-slot-requires Inv-loop μ-loop
-clear-slot-requires c κs = search needs
 
 loop-less : tie.Need-loop-less Inv-loop μ-loop
 loop-less c =
@@ -73,13 +55,13 @@ arrive-spec =
     μ-loop
     loop-holds
     lowest-requires
-    cast-i
-    mul-counts
-    array-read-counts
+    (λ c. search needs)
+    (λ c. search needs)
+    (λ c. search needs)
     add-counts
-    mul-counts-2
-    array-write-counts
-    clear-slot-requires
+    (λ c. search needs)
+    (λ c. search needs)
+    (λ c κs. search needs)
     loop-less
     loop-again
     returns)

@@ -4,10 +4,10 @@ use Prim.Native.Nat.{_<_}
 use native.Mathlib.Omega.{arith}
 use borrow.Author.Needs.{needs}
 use Rattle.queues.specs.Parts.{fullIn}
-use Rattle.queues.proofs.SlotLaws.{lowest-set, without-less}
 use Rattle.queues.proofs.QueueLaws.{full-hit, full-miss, full-end}
 use Rattle.queues.proofs.full.first_full.Statement.{statement}
 use Rattle.queues.proofs.full.first_full.Tie as tie
+use Rattle.masks.proofs.Search.{lowest-set, without-less}
 
 abbrev Inv-loop : tie.InvT-loop
 Inv-loop mask waiting rest₀ rest = (rest < 65536) × (fullIn waiting rest ≡ fullIn waiting mask)
@@ -21,26 +21,8 @@ loop-holds c = (search needs, refl)
 lowest-requires : tie.Need-lowest-requires Inv-loop μ-loop
 lowest-requires c κs = c .loop-test .taken
 
-cast-if1 : tie.Need-cast-if1 Inv-loop μ-loop
-cast-if1 c = search needs
-
-mul-if1 : tie.Need-mul-if1 Inv-loop μ-loop
-mul-if1 c = search needs
-
-array-read-if1 : tie.Need-array-read-if1 Inv-loop μ-loop
-array-read-if1 c = search needs
-
-cast-result : tie.Need-cast-result Inv-loop μ-loop
-cast-result c = search needs
-
-add-result : tie.Need-add-result Inv-loop μ-loop
-add-result c = search needs
-
 returns : tie.Need-returns Inv-loop μ-loop
 returns c = full-hit _ _ _ (c .before .lowest .ensures) (c .if1 .taken) ∙ c .before .before .before .loop .inv .1
-
-clear-slot-requires : tie.Need-clear-slot-requires Inv-loop μ-loop
-clear-slot-requires c κs = search needs
 
 loop-less : tie.Need-loop-less Inv-loop μ-loop
 loop-less c = omega (arith, c .clear-slot .ensures, without-less _ _ (c .before .before .before .loop-test .taken) (lowest-set _ _ (c .before .before .lowest .ensures)))
@@ -62,13 +44,13 @@ first-full-spec =
     μ-loop
     loop-holds
     lowest-requires
-    cast-if1
-    mul-if1
-    array-read-if1
-    cast-result
-    add-result
+    (λ c. search needs)
+    (λ c. search needs)
+    (λ c. search needs)
+    (λ c. search needs)
+    (λ c. search needs)
     returns
-    clear-slot-requires
+    (λ c κs. search needs)
     loop-less
     loop-again
     returns-2)

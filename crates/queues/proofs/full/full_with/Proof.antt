@@ -5,29 +5,11 @@ use borrow.Author.Needs.{needs}
 use Rattle.queues.proofs.full.full_with.Statement.{statement}
 use Rattle.queues.proofs.full.full_with.Tie as tie
 
-first-full-requires : tie.Need-first-full-requires
-first-full-requires c κs = search needs
-
 returns : tie.Need-returns
 returns c = c .first-full .ensures ∙ full-alone _ _ _ (c .before .if1 .taken)
 
-first-full-requires-2 : tie.Need-first-full-requires-2
-first-full-requires-2 c κs = search needs
-
 returns-2 : tie.Need-returns-2
 returns-2 c = c .first-full2 .ensures ∙ full-past _ _ _ (c .before .if2 .taken)
-
-sub-set-slot : tie.Need-sub-set-slot
-sub-set-slot c = search needs
-
-cast-set-slot : tie.Need-cast-set-slot
-cast-set-slot c = search needs
-
-set-slot-requires : tie.Need-set-slot-requires
-set-slot-requires c κs = search needs
-
-first-full-requires-3 : tie.Need-first-full-requires-3
-first-full-requires-3 c κs = search needs
 
 returns-3 : tie.Need-returns-3
 returns-3 c = c .first-full3 .ensures ∙ full-one _ _ _ _ (c .before .before .before .if1 .left) (c .before .set-slot .ensures)
@@ -36,12 +18,12 @@ pub full-with-spec : {M : Type 1} → statement M
 full-with-spec =
     tie.close
     (tie.spec
-    first-full-requires
+    (λ c κs. search needs)
     returns
-    first-full-requires-2
+    (λ c κs. search needs)
     returns-2
-    sub-set-slot
-    cast-set-slot
-    set-slot-requires
-    first-full-requires-3
+    (λ c. search needs)
+    (λ c. search needs)
+    (λ c κs. search needs)
+    (λ c κs. search needs)
     returns-3)

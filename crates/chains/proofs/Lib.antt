@@ -1,0 +1,2 @@
+-- ChainLaws: the way back to a chain's head.
+pub mod ChainLaws

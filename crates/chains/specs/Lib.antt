@@ -1,0 +1,2 @@
+-- Chains: the head from which next leads to a callback.
+pub mod Chains

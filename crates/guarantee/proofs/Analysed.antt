@@ -1,0 +1,70 @@
+-- What reader and analyser have seen to, of a table that both accept: all that the argument asks of it.
+--   Analysed, analysed   the table is sound and its sheet covers every offset, where the analyser accepts the bytes
+--   chains, leads    the chains of a sound table, as the busy-window argument takes them
+use mathlib.Core.Path.{_≡_}
+use mathlib.Core.Logic.{_≢_}
+use mathlib.Core.Bool.{true, false}
+use mathlib.Core.List.{List}
+use Prim.Native.Nat.{ℕ, _+_, _≤_, _<_}
+use native.Mathlib.Omega.{arith}
+use lib.Dec.{T}
+use Rattle.curves.specs.Demand.{demand, limit}
+use Rattle.ranges.proofs.EveryLaws.{T-holds}
+use Rattle.table.specs.declared.Table.{Table}
+use Rattle.table.specs.Values.{horizonOf}
+use Rattle.table.specs.Links.{linked, isHead}
+use Rattle.reader.specs.Format.{tableAt}
+use Rattle.rules.specs.Parts.{Sound}
+use Rattle.rules.proofs.Heads.{fed-once, top, down, head-is-head}
+use Rattle.reader.proofs.Accepted.{read-sound}
+use Rattle.busy_window.specs.Bound.{Covers}
+use Rattle.busy_window.specs.Chain.{Chains}
+use Rattle.numbers.specs.Numbers.{mostWaiting}
+use Rattle.faults.specs.Faults.{tableFault}
+use Rattle.executor.proofs.StartLaws.{read-faultless}
+use Rattle.sheet.specs.Sheet.{analysisFault}
+use Rattle.windows.proofs.WindowLaws.{window-settles, bound-covers}
+use Rattle.windows.proofs.TableLaws.{sound-rising}
+use Rattle.sheet.proofs.Accepted.{analysed-read, analysed-sheet, some-window, few-arrivals}
+use Rattle.chains.specs.Chains.{headOf}
+use Rattle.windows.specs.Bounds.{arrivalsOf, costOf, supplyOf, windowOf, boundOf}
+
+pub record Analysed (t : Table) : Type 0 where
+  -- a table that the reader gives, which no tick refuses with 29
+  pub sound : Sound t
+  pub faultless : tableFault t ≡ false
+  -- a window that the supply covers, within which no head activates more than 255 times
+  pub window : 0 < windowOf t
+  pub supplied : demand (t .count) (costOf t) (λ i. arrivalsOf t i (windowOf t)) + 0 ≤ supplyOf t (windowOf t)
+  pub small : (i : ℕ) → i < t .count → isHead t i ≡ true → arrivalsOf t i (windowOf t) ≤ mostWaiting
+  -- and bounds that cover every offset
+  pub covers : (i : ℕ) → i < t .count → Covers (t .count) (costOf t) (supplyOf t) 0 (limit (arrivalsOf t) i) (windowOf t) (boundOf t i)
+
+module _ (t : Table) (so : Sound t) where
+  pub chains : Chains (t .count) (linked t) (headOf t)
+  chains = record { once = fed-once t so; top = λ i _. top t i; down = down t so }
+
+  -- the head of a chain is a head
+  pub leads : (i : ℕ) → i < t .count → T (isHead t (headOf t i))
+  leads i l = T-holds _ (head-is-head t so i l)
+
+-- ---- bytes that the analyser accepts
+
+pub analysed : (b : List ℕ) (k : ℕ) → (analysisFault b k) .number ≡ 0 → Analysed (tableAt b)
+unfolding windowOf boundOf
+analysed b k ok =
+    let t : Table = tableAt b in
+    let so : Sound (tableAt b) = read-sound b (analysed-read b k ok) in
+    let some : windowOf (tableAt b) ≢ 0 = some-window (tableAt b) (analysed-sheet b k ok) in
+    let w = window-settles (t .count) (arrivalsOf t) (costOf t) (supplyOf t) (horizonOf t) some in
+    record {
+      sound = so;
+      faultless = read-faultless b (analysed-read b k ok);
+      window = w .0;
+      supplied = omega (arith, w .2);
+      small = few-arrivals t (analysed-sheet b k ok);
+      covers = λ i l A h. (
+          let c = bound-covers (t .count) (arrivalsOf t) (costOf t) (supplyOf t) (horizonOf t) (sound-rising t so) i A h in
+          (c .0, omega (arith, c .1), c .2)
+          );
+    }

@@ -1,0 +1,2 @@
+-- PriorityLaws: the kinds' masks, and the first in priority.
+pub mod PriorityLaws

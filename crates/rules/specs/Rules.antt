@@ -1,0 +1,63 @@
+-- Refusals 2 to 14 over a table's values, first match (document 01, 'Where each refusal is tested').
+-- headFault: 2 and 3, which the reader tests before it knows the length that a table must have. bodyFault: 5 to 14; what only bytes can show comes in
+-- as two tests, a spare byte of the header not zero and the records with one. faultOf: both, of a table given as values.
+use mathlib.Core.Bool.{Bool, false, cond, not, _&&_, _||_}
+use Prim.Native.Nat.{ℕ, zero, suc}
+use lib.Dec.{eqb, ltb, leb}
+use lib.ListN.{getD}
+use Rattle.ranges.specs.Every.{every, within}
+use Rattle.masks.specs.Mask.{has}
+use Rattle.numbers.specs.Numbers
+use Rattle.curves.specs.Cost.{entry}
+use Rattle.table.specs.declared.Callback.{Callback}
+use Rattle.table.specs.declared.Refusal.{Refusal}
+use Rattle.table.specs.declared.Table.{Table}
+use Rattle.table.specs.Values.{refuse, accepted, orElse, callbackAt}
+use Rattle.link_rules.specs.LinkRules.{linksFault}
+
+-- 2, then 3: edition and count
+unfoldable pub headFault : ℕ → ℕ → Refusal
+headFault edition count =
+    cond (not (eqb edition Numbers.editionOne)) (refuse Numbers.unknownEdition 0)
+    (cond (not (within 1 Numbers.places count)) (refuse Numbers.wrongCount 0) accepted)
+
+-- 6: no budget, more than the period, or too long a period
+unfoldable pub supplyFault : ℕ → ℕ → Bool
+supplyFault budget period = eqb budget 0 || (ltb period budget || ltb Numbers.longest period)
+
+-- 10: m is not 1 to 8, or one of the first m entries is not above the one before it, or too large
+unfoldable pub entriesFault : Callback → Bool
+entriesFault c =
+    not
+    (within 1 Numbers.entryPlaces (c .used)
+    && every (c .used) (λ k. ltb (entry (c .entries) k) (entry (c .entries) (suc k)) && leb (entry (c .entries) (suc k)) Numbers.longest))
+
+-- 5, first half: an entry beyond the first m is not zero
+unfoldable pub unusedFault : Callback → Bool
+unusedFault c = not (every Numbers.entryPlaces (λ k. ltb k (c .used) || eqb (getD (c .entries) k 0) 0))
+
+-- 8, 9, 10, 5 of one record: the number, 0 for none; `spare` says that a spare byte of it is not zero
+unfoldable pub recordFault : ℕ → Callback → Bool → ℕ
+recordFault n c spare =
+    cond (not (within Numbers.timer Numbers.client (c .kind))) Numbers.wrongKind
+    (cond (ltb n (c .next)) Numbers.wrongNext
+    (cond (entriesFault c) Numbers.wrongEntries
+    (cond (unusedFault c || spare) Numbers.spareNotZero 0)))
+
+-- the records in turn, k of them from slot i on: a record is tested whole before the next one
+unfoldable pub recordsFrom : ℕ → Table → ℕ → ℕ → Refusal
+recordsFrom spares t zero i = accepted
+recordsFrom spares t (suc k) i =
+    elim (recordFault (t .count) (callbackAt t i) (has spares i)) [ zero ↦ recordsFrom spares t k (suc i) | suc x ↦ refuse (suc x) (suc i) ]
+
+-- 5 of the header, 6, 7, the records, 11 to 14
+unfoldable pub bodyFault : Bool → ℕ → Table → Refusal
+bodyFault spare spares t =
+    cond spare (refuse Numbers.spareNotZero 0)
+    (cond (supplyFault (t .budget) (t .period)) (refuse Numbers.wrongSupply 0)
+    (cond (ltb Numbers.longest (t .horizon)) (refuse Numbers.wrongHorizon 0)
+    (orElse (recordsFrom spares t (t .count) 0) (linksFault t))))
+
+-- what is wrong with a table given as values
+unfoldable pub faultOf : Table → Refusal
+faultOf t = orElse (headFault (t .edition) (t .count)) (bodyFault false 0 t)

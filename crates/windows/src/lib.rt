@@ -1,0 +1,128 @@
+// The busy window of a table and the bound of each callback (document 01, 'The sheet').
+// The functions ask for a table without faults, with the head of each slot's chain (Headed of specs/Parts.antt).
+
+use table::Callback;
+use table::Table;
+ghost use mathlib.Core.Path.{_≡_};
+ghost use Prim.Native.Nat.{ℕ, _<_, _≤_, _*_, _-_, max};
+ghost use Rattle.numbers.specs.Numbers.{places, longest};
+ghost use Rattle.table.specs.Values.{horizonOf};
+ghost use Rattle.rules.specs.Parts.{Sound};
+ghost use Rattle.windows.specs.Bounds.{windowOf, boundOf};
+ghost use Rattle.windows.specs.Parts.{mostWork, headArrivals, workOf, demandBut, Spaced, Costed, Headed};
+
+// The head of each slot's chain, for the slots below count.
+pub fn heads_of(t: Table) -> [u8; 16]
+    requires { ⌜ Sound t ⌝ }
+    ensures { λ r. ⌜ Headed t r ⌝ }
+{
+    let n = t.count;
+    let mut heads = [0u8; 16];
+    let mut i: u8 = 0;
+    while i < n {
+        heads[i as usize] = chains::head(t, i);
+        i += 1;
+    }
+    heads
+}
+
+// a of a head in a window of `length` ticks.
+pub fn arrivals(head: Callback, length: u32) -> u32
+    requires { ⌜ Spaced head × (length ≤ longest) ⌝ }
+    ensures { λ r. ⌜ (r ≡ headArrivals head length) × (r ≤ length) ⌝ }
+{
+    curves::arrivals(
+        head.period as u32,
+        head.jitter as u32,
+        head.distance as u32,
+        length,
+    )
+}
+
+// E of a callback at the arrivals of its head in a window of `length` ticks.
+fn work(c: Callback, head: Callback, length: u32) -> u64
+    requires { ⌜ Costed c × Spaced head × (length ≤ longest) ⌝ }
+    ensures { λ r. ⌜ (r ≡ workOf c head length) × (r ≤ mostWork) ⌝ }
+{
+    let count = arrivals(head, length);
+    let entries = c.entries;
+    curves::cost(entries, c.used, count)
+}
+
+// The demand of all callbacks but slot x in a window of `length` ticks: that of all, where x is none of them.
+fn demand_but(t: Table, heads: [u8; 16], x: usize, length: u32) -> u64
+    requires { ⌜ Headed t heads × (length ≤ longest) ⌝ }
+    ensures { λ r. ⌜ (r ≡ demandBut t x length) × (r ≤ places * mostWork) ⌝ }
+{
+    let n = t.count as usize;
+    let mut sum: u64 = 0;
+    let mut i: usize = 0;
+    while i < n {
+        if i != x {
+            let head = heads[i] as usize;
+            let c = t.callbacks[i];
+            let g = t.callbacks[head];
+            sum += work(c, g, length);
+        }
+        i += 1;
+    }
+    sum
+}
+
+// W: the least length in 1 to the horizon whose supply covers the demand of all callbacks; 0 where there is none.
+pub fn window(t: Table, heads: [u8; 16], horizon: u32) -> u32
+    requires { ⌜ Headed t heads × (horizon ≡ horizonOf t) × (horizon ≤ longest) ⌝ }
+    ensures { λ r. ⌜ (r ≡ windowOf t) × (r ≤ longest) ⌝ }
+{
+    let n = t.count as usize;
+    let mut length: u32 = 1;
+    while length <= horizon {
+        let demand = demand_but(t, heads, n, length);
+        if demand <= curves::supply(t.budget as u32, t.period as u32, length) {
+            return length;
+        }
+        length += 1;
+    }
+    0
+}
+
+// The larger of `worst` and finish - offset.
+fn worse(worst: u32, finish: u32, offset: u32) -> u32
+    ensures { λ r. ⌜ r ≡ max worst (finish - offset) ⌝ }
+{
+    if finish <= offset {
+        return worst;
+    }
+    if finish - offset <= worst {
+        return worst;
+    }
+    finish - offset
+}
+
+// The bound of slot x: the largest F(A) - A over the offsets A below the window. F does not fall, so that each search goes on from
+// the length that the offset before found.
+pub fn bound(t: Table, heads: [u8; 16], x: usize, window: u32) -> u32
+    requires { ⌜ Headed t heads × (x < t .count) × (window ≡ windowOf t) × (window ≤ longest) ⌝ }
+    ensures { λ r. ⌜ (r ≡ boundOf t x) × (r ≤ longest) ⌝ }
+{
+    let head = heads[x] as usize;
+    let c = t.callbacks[x];
+    let g = t.callbacks[head];
+    let mut worst: u32 = 0;
+    let mut length: u32 = 1;
+    let mut others = demand_but(t, heads, x, length);
+    let mut offset: u32 = 0;
+    while offset < window {
+        let own = work(c, g, offset + 1);
+        let finish = loop {
+            if own + others <= curves::supply(t.budget as u32, t.period as u32, length) {
+                break length;
+            }
+            length += 1;
+            others = demand_but(t, heads, x, length);
+        };
+        worst = worse(worst, finish, offset);
+        offset += 1;
+    }
+    worst
+}
