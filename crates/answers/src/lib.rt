@@ -21,7 +21,7 @@ pub enum Outcome {
 }
 
 // The reply of a tick: the refusal's number and index, the answer (0 refused, 1 no supply, 2 idle, 3 ran, 4 finished) with
-// its callback and instance, and whether one started, whether a polling point fell here, and how many the poll took.
+// its callback and instance, and flags for a start and for a polling point, with the number of callbacks that it put in the cache.
 #[repr(C)]
 pub struct Reply {
     pub instance: u32,

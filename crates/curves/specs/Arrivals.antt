@@ -5,7 +5,7 @@ use Prim.Native.Nat.{ℕ, zero, suc, _+_, _-_, _/_, min}
 unfoldable pub ceiling : ℕ → ℕ → ℕ
 ceiling x y = (x + (y - 1)) / y
 
--- a(D), of T, J and d: a(0) = 0 whatever J; for D over 0 the smaller of (D + J) / T and D / d, each rounded up
+-- a(D), of T, J and d: none in no time, whatever J; else as many as the jittered period allows, or the least distance if that is fewer
 unfoldable pub arrivals : ℕ → ℕ → ℕ → ℕ → ℕ
 arrivals period jitter distance zero = 0
 arrivals period jitter distance (suc n) = min (ceiling (suc n + jitter) period) (ceiling (suc n) distance)

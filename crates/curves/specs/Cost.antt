@@ -7,6 +7,6 @@ use lib.ListN.{length, getD}
 abbrev pub entry : List ℕ → ℕ → ℕ
 entry es k = getD (0 ∷ es) k 0
 
--- E(n): with m entries, E(q × m + r) = q × E(m) + E(r), r below m
+-- E(n): past the m entries, E(m) for each m instances and the entry of the rest
 unfoldable pub cost : List ℕ → ℕ → ℕ
 cost es n = n / length es * entry es (length es) + entry es (n % length es)

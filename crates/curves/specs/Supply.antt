@@ -3,7 +3,7 @@ use mathlib.Core.Bool.{true, false}
 use Prim.Native.Nat.{ℕ, _+_, _*_, _-_, _/_}
 use lib.Dec.{ltb}
 
--- s(D) at D at least g: with k = (D - g) / P rounded down, k × Q + the larger of 0 and D - 2 × g - k × P
+-- s(D) from g on: Q for each of the k periods that are over after the first gap, and what is left of D behind the second gap of the last
 abbrev pub suppliedPast : ℕ → ℕ → ℕ → ℕ → ℕ
 suppliedPast budget period g n = let k : ℕ = (n - g) / period in k * budget + (n - (2 * g + k * period))
 

@@ -19,8 +19,8 @@ pub struct Machine {
     pub clock: u32,
 }
 
-// What a tick gives: the next state, the outcome, and beside it whether one started, whether a polling point fell here,
-// and how many callbacks the poll put in the cache.
+// What a tick gives: the next state, the outcome, and beside it flags for a start and for a polling point, with the number
+// of callbacks that it put in the cache.
 pub struct Ticked {
     pub machine: Machine,
     pub outcome: answers::Outcome,

@@ -30,7 +30,7 @@ fn count_fault(waiting: u16, finished: u32, clock: u32) -> bool
     waiting > MOST_WAITING || finished > clock
 }
 
-// Whether a cached or running callback has none waiting, one is cached that is not polled, or one runs that is polled and not cached.
+// Whether one that is cached or runs has nothing waiting, one is cached that is not polled, or one runs that is polled and not cached.
 fn cache_fault(cached: bool, runs: bool, polled: bool, waiting: u16) -> bool
     ensures { λ r. ⌜ r ≡ cacheWrong cached runs polled waiting ⌝ }
 {

@@ -1,4 +1,4 @@
--- Mask: what a mask of callbacks is (document 01: 'a mask of sixteen bits (bit i - 1 for callback i)').
+-- Mask: what a mask of callbacks is (document 01, 'One tick of the machine', the arrivals).
 -- Parts: what inner functions give.
 pub mod Mask
 pub mod Parts

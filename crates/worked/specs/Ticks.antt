@@ -11,7 +11,7 @@ use Rattle.executor.specs.Tick.{tickOf}
 use Rattle.executor.specs.Start.{startOf}
 
 -- what one tick says, six numbers: the answer (1 no supply, 2 idle, 3 ran, 4 finished; 0 refused), its callback and instance,
--- whether one started, whether a polling point fell there, and how many the poll took
+-- flags for a start and for a polling point, and how many that one took
 abbrev pub says : Ticked → List ℕ
 says x = numberOf (x .outcome) ∷ callbackOf (x .outcome) ∷ instanceOf (x .outcome) ∷ flag (x .started) ∷ flag (x .polled) ∷ x .gathered ∷ []
 
