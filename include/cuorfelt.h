@@ -38,7 +38,7 @@ enum {
     CUORFELT_FINISHED = 4   /* the same, and it finished at the time after this tick */
 };
 
-/* What a tick says. */
+/* The reply of a tick. */
 typedef struct {
     uint32_t instance;  /* of the callback named, from 1; 0 where none is named */
     uint8_t number;     /* of the refusal; 0: the tick was taken */

@@ -72,19 +72,19 @@ repliesFrom m [] = []
 repliesFrom m (x ∷ h) = replyTo (called m x) ∷ repliesFrom ((called m x) .machine) h
 
 -- a state without faults, but for counts to which one tick added an arrival and an activation; its numbers fit their fields
-pub record Left (m : Machine) : Type 0 where
+pub record Reached (m : Machine) : Type 0 where
   pub valid : Valid m
   pub room : Room (mostWaiting + 2) m
   pub taken : m .clock ≤ mostTicks
 
-pub fits : (m : Machine) → Left m → Fit tailFields (tailNumbers m)
+pub fits : (m : Machine) → Reached m → Fit tailFields (tailNumbers m)
 fits m l = fit-tail m (l .valid) (λ i h. omega (arith, l .room i h)) (omega (arith, l .taken))
 
-left-ticked : (m : Machine) → Left m → (x : Call) → Left ((called m x) .machine)
+reached-ticked : (m : Machine) → Reached m → (x : Call) → Reached ((called m x) .machine)
 unfolding refused faulty
-left-ticked m l x = tick-cases m (x .mask) (isSet (x .supplied)) (x .cost) (λ o. Left (o .machine)) done (λ h. l)
+reached-ticked m l x = tick-cases m (x .mask) (isSet (x .supplied)) (x .cost) (λ o. Reached (o .machine)) done (λ h. l)
   where
-    done : Passed m (x .mask) (x .cost) → Left ((effect m (x .mask) (isSet (x .supplied)) (x .cost)) .machine)
+    done : Passed m (x .mask) (x .cost) → Reached ((effect m (x .mask) (isSet (x .supplied)) (x .cost)) .machine)
     done p =
         let s = steps m (l .valid) (x .mask) (x .cost) (p .priced) (p .heads) (isSet (x .supplied)) in
         let o = effect m (x .mask) (isSet (x .supplied)) (x .cost) in
@@ -98,7 +98,7 @@ left-ticked m l x = tick-cases m (x .mask) (isSet (x .supplied)) (x .cost) (λ o
 
 -- ---- one tick on the bytes of such a state
 
-module _ (m : Machine) (l : Left m) (w : Writable (m .table)) (x : Call) where
+module _ (m : Machine) (l : Reached m) (w : Writable (m .table)) (x : Call) where
   reply-same : tickReply (packed m) (x .mask) (x .supplied) (x .cost) ≡ replyTo (called m x)
   unfolding tickReply
   reply-same = rw (laid-packed m (fits m l) w, tickReply) (ap (λ (y : Machine). replyTo (called y x)) (unpacked-packed m (fits m l) w))
@@ -116,14 +116,14 @@ module _ (m : Machine) (l : Left m) (w : Writable (m .table)) (x : Call) where
 
 -- ---- a history
 
-pub same-replies : (m : Machine) → Left m → Writable (m .table) → (h : List Call) → repliesIn (packed m) h ≡ repliesFrom m h
+pub same-replies : (m : Machine) → Reached m → Writable (m .table) → (h : List Call) → repliesIn (packed m) h ≡ repliesFrom m h
 unfolding repliesIn repliesFrom
 same-replies m l w [] = refl
 same-replies m l w (x ∷ h) =
     ap₂ _∷_
     (reply-same m l w x)
     (ap (λ (s : List ℕ). repliesIn s h) (state-same m l w x)
-    ∙ same-replies ((called m x) .machine) (left-ticked m l x) (subst Writable (sym (tick-table m (x .mask) (isSet (x .supplied)) (x .cost))) w) h)
+    ∙ same-replies ((called m x) .machine) (reached-ticked m l x) (subst Writable (sym (tick-table m (x .mask) (isSet (x .supplied)) (x .cost))) w) h)
 
 fresh-replies : (t : Table) → tableFault t ≡ false → Writable t → (h : List Call) → repliesIn (packed (fresh t)) h ≡ repliesFrom (fresh t) h
 unfolding fresh
