@@ -18,7 +18,7 @@ use Rattle.turns.specs.declared.Turn.{Turn}
 use Rattle.queues.specs.Queues.{counted, completed}
 use Rattle.turns.specs.Turns.{stepOf}
 use Rattle.executor.specs.declared.Machine.{Machine}
-use Rattle.executor.specs.State.{finishedAt}
+use Rattle.executor.specs.State.{withCounts, finishedAt}
 use Rattle.executor.specs.Effect.{arrive, unsupplied, turnIn, instanceAt, left, ticked, served, effect}
 use Rattle.executor.specs.Parts.{completedBy}
 
@@ -32,15 +32,12 @@ module _ (m : Machine) where
   instance-some zero h = absurd (h refl)
   instance-some (suc i) h = ap (λ (j : ℕ). finishedAt m j + 1) (omega arith)
 
-  abbrev counts : List ℕ → List ℕ → Machine
-  counts ws fs = record { table = m .table; waiting = ws; finished = fs; cache = m .cache; running = m .running; units = m .units; clock = m .clock }
-
   pub completed-none : (x : ℕ) → x ≡ 0 → m ≡ completedBy m x
   unfolding completedBy left counted
   completed-none x e = ap (completedBy m) (sym e)
 
   pub completed-some : (x next k : ℕ) (ws : List ℕ) → x ≢ 0 → next ≡ nextAfter (m .table) x → k ≡ instanceAt m x → ws ≡ completed (x - 1) next (m .waiting)
-      → counts ws (set (m .finished) (x - 1) k) ≡ completedBy m x
+      → withCounts m ws (set (m .finished) (x - 1) k) ≡ completedBy m x
   unfolding completedBy left counted nextAfter instanceAt
   completed-some zero next k ws h e g f = absurd (h refl)
   completed-some (suc i) next k ws h e g f = rw (f, e, g, slot)

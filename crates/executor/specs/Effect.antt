@@ -15,11 +15,11 @@ use Rattle.turns.specs.declared.Turn.{Turn}
 use Rattle.turns.specs.Turns.{turnOf, stepOf}
 use Rattle.executor.specs.declared.Machine.{Machine}
 use Rattle.executor.specs.declared.Ticked.{Ticked}
+use Rattle.executor.specs.State.{withCounts}
 
 -- step 1: the state with the arrivals of a mask
 abbrev pub arrive : Machine → ℕ → Machine
-arrive m mask =
-    record { table = m .table; waiting = arrived mask (m .waiting); finished = m .finished; cache = m .cache; running = m .running; units = m .units; clock = m .clock }
+arrive m mask = withCounts m (arrived mask (m .waiting)) (m .finished)
 
 -- the state after a tick: one tick more is taken
 abbrev pub after : Machine → List ℕ → List ℕ → ℕ → ℕ → ℕ → Machine

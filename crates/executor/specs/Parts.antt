@@ -13,7 +13,7 @@ use Rattle.turns.specs.Parts.{Cached}
 use Rattle.faults.specs.Faults.{tableFault}
 use Rattle.executor.specs.declared.Machine.{Machine}
 use Rattle.executor.specs.declared.Ticked.{Ticked}
-use Rattle.executor.specs.State.{waitingOf, finishedAt}
+use Rattle.executor.specs.State.{withCounts, waitingOf, finishedAt}
 use Rattle.executor.specs.Effect.{left, effect}
 use Rattle.executor.specs.Tick.{full, refused}
 
@@ -49,8 +49,7 @@ pub record Completes (m : Machine) (i : ℕ) : Type 0 where
 
 -- the state with the counts of that completion; index 0 is nobody's
 unfoldable pub completedBy : Machine → ℕ → Machine
-completedBy m f =
-    record { table = m .table; waiting = left (m .table) f (m .waiting); finished = counted f (m .finished); cache = m .cache; running = m .running; units = m .units; clock = m .clock }
+completedBy m f = withCounts m (left (m .table) f (m .waiting)) (counted f (m .finished))
 
 -- refusal 21, or the effect
 unfoldable pub admitted : Machine → ℕ → Bool → ℕ → Ticked

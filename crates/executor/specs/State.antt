@@ -1,5 +1,6 @@
 -- The fresh state, and the faults of row 29 of the refusals.
 use mathlib.Core.Bool.{Bool, _||_}
+use mathlib.Core.List.{List}
 use Prim.Native.Nat.{ℕ}
 use lib.ListN.{getD, replicate}
 use Rattle.table.specs.declared.Table.{Table}
@@ -11,6 +12,11 @@ use Rattle.executor.specs.declared.Machine.{Machine}
 unfoldable pub fresh : Table → Machine
 fresh t =
     record { table = t; waiting = replicate places 0; finished = replicate places 0; cache = 0; running = 0; units = 0; clock = 0 }
+
+-- a state with other counts
+abbrev pub withCounts : Machine → List ℕ → List ℕ → Machine
+withCounts m ws fs =
+    record { table = m .table; waiting = ws; finished = fs; cache = m .cache; running = m .running; units = m .units; clock = m .clock }
 
 -- instances of slot i that wait, and that have finished
 abbrev pub waitingOf : Machine → ℕ → ℕ

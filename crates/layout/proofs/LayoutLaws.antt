@@ -37,7 +37,7 @@ use Rattle.executor.specs.State.{fresh}
 use Rattle.executor.specs.Parts.{Valid, Room}
 use Rattle.executor.proofs.ValidLaws.{table-sound}
 use Rattle.executor.proofs.StartLaws.{read-faultless}
-use Rattle.layout.specs.Layout.{stateLength, tailStart, tailFields, spareStart, spareBytes, tableEnd, tablePart, laidOut, tailAt, unpacked, tailNumbers, packedTail, packed, machineOf}
+use Rattle.layout.specs.Layout.{stateLength, tailStart, tailFields, fieldStart, spareStart, spareBytes, tableEnd, tablePart, laidOut, tailAt, unpacked, tailNumbers, packedTail, packed, machineOf}
 
 -- ---- the parts of laidOut
 
@@ -93,7 +93,7 @@ module _ (b : List ℕ) (l : Laid b) where
   -- the numbers of the state that they hold are those of the fields
   numbers-unpacked : tailNumbers (unpacked b) ≡ tailAt b
   unfolding unpacked fieldsAt numbers
-  numbers-unpacked = rw (zeros-numbers b tailStart 105 spareBytes (l .spare))
+  numbers-unpacked = rw (zeros-numbers b tailStart (sizeOf (take 6 tailFields)) spareBytes (l .spare))
 
 module _ (b : List ℕ) (bytes : (i : ℕ) → getD b i 0 < 256) (l : Laid b) where
   table-again : written (tableAt (tablePart b)) ≡ tablePart b
@@ -248,7 +248,7 @@ module _ (m : Machine) (fit : Fit tailFields (tailNumbers m)) (w : Writable (m .
 
   spare-packed : zeros (packed m) spareStart spareBytes ≡ true
   unfolding fieldsAt
-  spare-packed = numbers-zeros (packed m) tailStart 105 spareBytes (ap (λ (vs : List (List ℕ)). fieldOf vs 6) tail-back)
+  spare-packed = numbers-zeros (packed m) tailStart (sizeOf (take 6 tailFields)) spareBytes (ap (λ (vs : List (List ℕ)). fieldOf vs 6) tail-back)
 
   pub unpacked-packed : unpacked (packed m) ≡ m
   unfolding unpacked
@@ -278,24 +278,24 @@ packed-fresh b bytes e =
 
 pub pack-parts : (b : List ℕ) (m : Machine) {b1 b2 b3 b4 b5 b6 b7 : List ℕ}
     → length b ≡ stateLength → length (m .waiting) ≡ places → length (m .finished) ≡ places → m .running < 256
-    → b1 ≡ over b tailStart (run 2 (m .waiting))
-    → b2 ≡ over b1 560 (run 4 (m .finished))
-    → b3 ≡ over b2 624 (le 4 (m .clock))
-    → b4 ≡ over b3 628 (le 2 (m .cache))
-    → b5 ≡ over b4 630 (le 2 (m .units))
-    → b6 ≡ over b5 632 (m .running ∷ [])
-    → b7 ≡ over b6 633 (replicate spareBytes 0)
+    → b1 ≡ over b (fieldStart 0) (run 2 (m .waiting))
+    → b2 ≡ over b1 (fieldStart 1) (run 4 (m .finished))
+    → b3 ≡ over b2 (fieldStart 2) (le 4 (m .clock))
+    → b4 ≡ over b3 (fieldStart 3) (le 2 (m .cache))
+    → b5 ≡ over b4 (fieldStart 4) (le 2 (m .units))
+    → b6 ≡ over b5 (fieldStart 5) (m .running ∷ [])
+    → b7 ≡ over b6 (fieldStart 6) (replicate spareBytes 0)
     → b7 ≡ over b tailStart (packedTail m)
 unfolding packedTail overFields run
 pack-parts b m {b5 = b5} {b6 = b6} {b7 = b7} h w f small e1 e2 e3 e4 e5 e6 e7 =
-    let byte : b6 ≡ over b5 632 (m .running % 256 ∷ []) = e6 ∙ ap (λ (x : ℕ). over b5 632 (x ∷ [])) (sym (mod-eq-of-lt small)) in
+    let byte : b6 ≡ over b5 (fieldStart 5) (m .running % 256 ∷ []) = e6 ∙ ap (λ (x : ℕ). over b5 (fieldStart 5) (x ∷ [])) (sym (mod-eq-of-lt small)) in
     let writes : b7 ≡ overFields tailFields (tailNumbers m) b tailStart = simp (e7, byte, e5, e4, e3, e2, e1) in
     writes ∙ over-fields tailFields (tailNumbers m) b tailStart (w, (f, (refl, (refl, (refl, (refl, (refl, tt))))))) (omega arith)
 
 -- ---- the reads of unpack_with
 
-pub unpack-parts : (t : Table) (b : List ℕ) {ws fs : List ℕ} {c u k : ℕ} → ws ≡ numbers 2 b tailStart 0 places → fs ≡ numbers 4 b 560 0 places
-    → c ≡ get 2 b 628 → u ≡ get 2 b 630 → k ≡ get 4 b 624
-    → _≡_ {A = Machine} (record { table = t; waiting = ws; finished = fs; cache = c; running = getD b 632 0; units = u; clock = k }) (machineOf t (tailAt b))
+pub unpack-parts : (t : Table) (b : List ℕ) {ws fs : List ℕ} {c u k : ℕ} → ws ≡ numbers 2 b (fieldStart 0) 0 places → fs ≡ numbers 4 b (fieldStart 1) 0 places
+    → c ≡ get 2 b (fieldStart 3) → u ≡ get 2 b (fieldStart 4) → k ≡ get 4 b (fieldStart 2)
+    → _≡_ {A = Machine} (record { table = t; waiting = ws; finished = fs; cache = c; running = getD b (fieldStart 5) 0; units = u; clock = k }) (machineOf t (tailAt b))
 unfolding fieldsAt numbers
 unpack-parts t b ew ef ec eu ek = simp (ew, ef, ec, eu, ek)

@@ -28,8 +28,12 @@ tailStart = recordStart places
 abbrev pub stateLength : ℕ
 stateLength = tailStart + sizeOf tailFields
 
+-- where the field of a number begins, the first having 0; the last one is spare
+abbrev pub fieldStart : ℕ → ℕ
+fieldStart k = tailStart + sizeOf (take k tailFields)
+
 abbrev pub spareStart : ℕ
-spareStart = stateLength - spareBytes
+spareStart = fieldStart 6
 
 -- where the table's bytes end
 abbrev pub tableEnd : List ℕ → ℕ
