@@ -3,7 +3,7 @@ use mathlib.Core.Bool.{true, false}
 use Prim.Native.Nat.{ℕ, _+_, _*_, _-_, _/_}
 use lib.Dec.{ltb}
 
--- s(D) from g on: Q for each of the k periods that are over after the first gap, and what is left of D behind the second gap of the last
+-- s(D) from g on: Q for each of the k whole periods behind the first gap, and of the rest what lies beyond a second gap
 abbrev pub suppliedPast : ℕ → ℕ → ℕ → ℕ → ℕ
 suppliedPast budget period g n = let k : ℕ = (n - g) / period in k * budget + (n - (2 * g + k * period))
 
