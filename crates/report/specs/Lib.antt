@@ -1,0 +1,2 @@
+-- Status: how a program that prints a sheet ends.
+pub mod Status
