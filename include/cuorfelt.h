@@ -1,11 +1,17 @@
 /* Cuorfelt for hosts in C and C++: the callback table's reader, the timing sheet's analyser, and the executor as a machine
- * that moves tick by tick. Link libcuorfelt.a (`rt staticlib cuorfelt`); it needs the C library's memcpy and memset alone.
+ * that moves tick by tick. GUIDE.md explains every word used here, and STATE.md the bytes of a state; cuorfelt_text.h has the
+ * words of the refusals. Link libcuorfelt; it needs the C library's memcpy and memset alone, on x86-64.
  *
- * A slice is passed as a pointer and a length. Every function may be called with any bytes and any length, allocates nothing, keeps
- * nothing between calls and returns. A pointer must be valid for its length, and memory that is written may not overlap other memory
- * of the same call. Where a length is 0 the pointer is not read, but may not be null.
+ * Memory. A slice is passed as a pointer and a length. Every function may be called with any bytes and any length and returns; it
+ * allocates nothing and keeps nothing between calls. A pointer must be valid for its length, and may be null where the length is 0.
+ * Memory that is written may not overlap other memory of the same call. Tables and states may lie at any address; a row of
+ * uint16_t lies at an even one, as C has it.
+ * Threads. Any number of threads may call at once, if none writes memory that another one's call uses: a state belongs to
+ * one call at a time, and so does a row; a table may be shared.
+ * Stack. CUORFELT_STACK bytes suffice for any call. cuorfelt_tick was measured at 3,248 bytes, cuorfelt_analyse at 2,912; the rest is
+ * for the loader, where it binds memcpy at the first call.
  *
- * Numbers of refusals, and the words of the comments: document 01. A callback's index counts from 1, and is 0 where none is meant. */
+ * A callback's index counts from 1, and is 0 where none is meant. */
 #ifndef CUORFELT_H
 #define CUORFELT_H
 
@@ -16,13 +22,76 @@
 extern "C" {
 #endif
 
+/* The version of this header and of its library. A host is compiled anew where the first number differs; the second rises where
+ * something is added, the third where neither is so. */
+#define CUORFELT_VERSION_MAJOR 1
+#define CUORFELT_VERSION_MINOR 0
+#define CUORFELT_VERSION_PATCH 0
+
+/* Sizes. */
+enum {
+    CUORFELT_PLACES = 16,            /* callbacks of a table, at most; places that a lent row must have, at least */
+    CUORFELT_ENTRY_PLACES = 8,       /* cost entries of a callback, at most */
+    CUORFELT_HEADER_LENGTH = 16,     /* bytes of a table: a header, and a record for each callback */
+    CUORFELT_RECORD_LENGTH = 32,
+    CUORFELT_LONGEST_TABLE = 528,
+    CUORFELT_STATE_LENGTH = 640,     /* bytes of a state */
+    CUORFELT_STACK = 8192            /* bytes of stack that suffice for any call */
+};
+
+/* Limits. */
+enum {
+    CUORFELT_LONGEST = 60000,        /* the largest period, jitter, horizon, cost entry and cost, in ticks */
+    CUORFELT_DEFAULT_HORIZON = 60000, /* what a horizon of 0 means */
+    CUORFELT_MOST_WAITING = 255,     /* instances of a callback that wait, at most */
+    CUORFELT_MOST_TICKS = 1000000000 /* ticks that a machine takes, at most */
+};
+
+/* The edition, byte 0 of a table, and the kind, byte 0 of a record. */
+enum {
+    CUORFELT_EDITION_ONE = 1
+};
+enum {
+    CUORFELT_TIMER = 1,
+    CUORFELT_SUBSCRIPTION = 2,
+    CUORFELT_SERVICE = 3,
+    CUORFELT_CLIENT = 4
+};
+
+/* Numbers of refusals; cuorfelt_text.h says each in words. */
+enum {
+    CUORFELT_ACCEPTED = 0,
+    CUORFELT_SHORT_HEADER = 1,
+    CUORFELT_UNKNOWN_EDITION = 2,
+    CUORFELT_WRONG_COUNT = 3,
+    CUORFELT_WRONG_LENGTH = 4,
+    CUORFELT_SPARE_NOT_ZERO = 5,
+    CUORFELT_WRONG_SUPPLY = 6,
+    CUORFELT_WRONG_HORIZON = 7,
+    CUORFELT_WRONG_KIND = 8,
+    CUORFELT_WRONG_NEXT = 9,
+    CUORFELT_WRONG_ENTRIES = 10,
+    CUORFELT_NAMED_TWICE = 11,
+    CUORFELT_TIMER_NAMED = 12,
+    CUORFELT_LOOP = 13,
+    CUORFELT_WRONG_ARRIVALS = 14,
+    CUORFELT_NO_WINDOW = 15,
+    CUORFELT_TOO_MANY = 16,
+    CUORFELT_SHORT_ROW = 17,
+    CUORFELT_TICKS_SPENT = 18,
+    CUORFELT_WRONG_COST = 19,
+    CUORFELT_NOT_A_HEAD = 20,
+    CUORFELT_QUEUE_FULL = 21,
+    CUORFELT_FAULTY_STATE = 29
+};
+
 /* A refusal: its number, and the callback that it is about. Number 0: nothing is refused, and the index is 0. */
 typedef struct {
     uint8_t number;
     uint8_t index;
 } cuorfelt_refusal;
 
-/* What the analyser returns: the window W, 0 where it refuses, and the refusal. */
+/* What the analyser returns: the window, 0 where it refuses, and the refusal. */
 typedef struct {
     uint16_t window;
     uint8_t number;
@@ -43,26 +112,27 @@ typedef struct {
     uint32_t instance;  /* of the callback named, from 1; 0 where none is named */
     uint8_t number;     /* of the refusal; 0: the tick was taken */
     uint8_t index;      /* of the refusal */
-    uint8_t answer;     /* CUORFELT_.. */
+    uint8_t answer;     /* CUORFELT_REFUSED to CUORFELT_FINISHED */
     uint8_t callback;   /* that ran or finished, from 1; 0 where none did */
     uint8_t started;    /* 1 where the instance named started in this tick, else 0 */
     uint8_t polled;     /* 1 where a polling point fell in this tick, else 0 */
     uint8_t gathered;   /* how many callbacks the poll put in the cache; 0 without one */
 } cuorfelt_reply;
 
-/* The length of a state in bytes: 640. docs/STATE.md has its layout. */
+/* The length of a state in bytes, CUORFELT_STATE_LENGTH. */
 size_t cuorfelt_state_length(void);
 
 /* Reads a table and returns its refusal, 1 to 14, or number 0 where it is accepted. */
 cuorfelt_refusal cuorfelt_read(const uint8_t *table, size_t length);
 
-/* Analyses a table: returns W and writes the bounds of callbacks 1 to n to row[0] to row[n - 1].
- * Places of the row from n on are not touched. A refusal, 17 (fewer than 16 places), 1 to 14, 15 or 16, touches no place of the row and
- * returns window 0. */
+/* Analyses a table of n callbacks: returns the window and writes the bounds of callbacks 1 to n to row[0] to row[n - 1].
+ * Places of the row from n on are not touched. A refusal, 17 (fewer than 16 places), 1 to 14, 15 or 16, touches no place of the row
+ * and returns window 0. */
 cuorfelt_sheet cuorfelt_analyse(const uint8_t *table, size_t length, uint16_t *row, size_t places);
 
 /* Starts a machine: writes the fresh state of the table to the lent bytes, all of them.
- * Refusals: 29 where state_length is not cuorfelt_state_length(), then 1 to 14. A refusal leaves the lent bytes as they were. */
+ * Refusals: 29 where state_length is not cuorfelt_state_length(), then 1 to 14. A refusal leaves the lent bytes as they were: if they
+ * held a state, they still do, and ticks go on with it. */
 cuorfelt_refusal cuorfelt_start(const uint8_t *table, size_t length, uint8_t *state, size_t state_length);
 
 /* Takes one tick on the state in the lent bytes: arrivals in the mask (bit i - 1 for callback i, heads only), whether the tick is supplied

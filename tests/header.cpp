@@ -1,2 +1,34 @@
+// The headers in C++. Where a length is 0 the pointer may be null, as an empty vector has it.
 #include "cuorfelt.h"
-int main() { return cuorfelt_state_length() == 640 ? 0 : 1; }
+#include "cuorfelt_text.h"
+
+#include <cstdio>
+#include <vector>
+
+static_assert(sizeof(cuorfelt_refusal) == 2 && sizeof(cuorfelt_sheet) == 4 && sizeof(cuorfelt_reply) == 12, "as the library lays them out");
+static_assert(CUORFELT_LONGEST_TABLE == CUORFELT_HEADER_LENGTH + CUORFELT_RECORD_LENGTH * CUORFELT_PLACES, "a table of sixteen callbacks");
+
+static int wrong = 0;
+
+static void expect(const char *call, unsigned said, unsigned number)
+{
+    if (said != number) {
+        std::printf("%s says %u, not %u\n", call, said, number);
+        wrong = 1;
+    }
+}
+
+int main()
+{
+    std::vector<uint8_t> state(CUORFELT_STATE_LENGTH);
+    std::vector<uint16_t> row(CUORFELT_PLACES);
+    expect("state_length", unsigned(cuorfelt_state_length()), CUORFELT_STATE_LENGTH);
+    expect("read", cuorfelt_read(nullptr, 0).number, CUORFELT_SHORT_HEADER);
+    expect("analyse", cuorfelt_analyse(nullptr, 0, row.data(), row.size()).number, CUORFELT_SHORT_HEADER);
+    expect("analyse", cuorfelt_analyse(nullptr, 0, nullptr, 0).number, CUORFELT_SHORT_ROW);
+    expect("start", cuorfelt_start(nullptr, 0, state.data(), state.size()).number, CUORFELT_SHORT_HEADER);
+    expect("start", cuorfelt_start(nullptr, 0, nullptr, 0).number, CUORFELT_FAULTY_STATE);
+    expect("tick", cuorfelt_tick(nullptr, 0, 0, 1, 1).number, CUORFELT_FAULTY_STATE);
+    expect("tick", cuorfelt_tick(state.data(), state.size(), 0, 1, 1).number, CUORFELT_FAULTY_STATE);
+    return wrong;
+}

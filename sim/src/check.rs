@@ -2,11 +2,38 @@
 
 use crate::generate::histories::{within, Style};
 use crate::generate::tables::{table, Shape};
-use crate::history::{conclusions, longest_response, within_curves, History};
+use crate::history::{conclusions, longest_response, within_curves, Departure, History, Violation};
 use crate::random::Random;
-use crate::sheet::analyse;
-use crate::table::{encode, Table, MOST_CALLBACKS};
+use crate::sheet::sheet;
+use crate::table::{encode, Table};
 use crate::text::{script_text, Line, Script};
+
+/// What one history shows: how it first leaves the curves, which conclusion of demand 3 it breaks
+/// first, and the longest response of each callback, by place.
+#[derive(Clone, Debug, PartialEq, Eq)]
+pub struct Judgement {
+    pub departure: Option<Departure>,
+    pub violation: Option<Violation>,
+    pub longest: Vec<u64>,
+}
+
+impl Judgement {
+    /// Whether the history is within the curves and breaks no conclusion.
+    pub fn in_order(&self) -> bool {
+        self.departure.is_none() && self.violation.is_none()
+    }
+}
+
+pub fn judged(table: &Table, bounds: &[u64], history: &History) -> Judgement {
+    let callbacks = 1..=table.count();
+    Judgement {
+        departure: within_curves(table, history).err(),
+        violation: conclusions(table, bounds, history).err(),
+        longest: callbacks
+            .map(|index| longest_response(table, index, history))
+            .collect(),
+    }
+}
 
 /// What a check has seen.
 #[derive(Clone, Debug, Default)]
@@ -28,6 +55,9 @@ pub struct Totals {
     pub violations: Vec<String>,
 }
 
+/// How many histories each table is tried with.
+const HISTORIES: u64 = 9;
+
 /// Checks `count` tables; table i is drawn from `seed` + i, so that
 /// `check(seed + i, 1, ..)` repeats it.
 pub fn check(seed: u64, count: u64, most_ticks: u64) -> Totals {
@@ -45,50 +75,39 @@ fn check_table(seed: u64, most_ticks: u64, totals: &mut Totals) {
     } else {
         Shape::Long
     };
-    let table = table(&mut random, shape);
-    let mut row = [0; MOST_CALLBACKS];
     totals.tables += 1;
-    let Ok(window) = analyse(&encode(&table), &mut row) else {
+    let Ok(sheet) = sheet(&encode(&table(&mut random, shape))) else {
         return;
     };
     totals.accepted += 1;
-    totals.longest_window = totals.longest_window.max(window);
-    let bounds: Vec<u64> = row[..table.count()]
-        .iter()
-        .map(|&bound| bound.into())
-        .collect();
+    totals.longest_window = totals.longest_window.max(sheet.window);
+    let (table, window) = (&sheet.table, sheet.window);
     let mut responses = vec![0; table.count()];
     let length = most_ticks.min(8 * window + 20);
-    for style in styles(&mut random, &table, window) {
-        let history = within(&mut random, &table, &style, length);
-        judge(seed, &table, &bounds, &history, totals);
-        for (place, longest) in responses.iter_mut().enumerate() {
-            *longest = longest_response(&table, place + 1, &history).max(*longest);
+    let styles: Vec<Style> = (0..HISTORIES)
+        .map(|turn| Style::of_turn(&mut random, table, window, turn))
+        .collect();
+    for style in styles {
+        let history = within(&mut random, table, &style, length);
+        let judgement = judged(table, &sheet.bounds, &history);
+        note(seed, table, &history, &judgement, totals);
+        for (response, longest) in responses.iter_mut().zip(judgement.longest) {
+            *response = longest.max(*response);
         }
     }
     if window <= most_ticks {
-        tally(&bounds, &responses, totals);
+        tally(&sheet.bounds, &responses, totals);
     }
 }
 
-fn styles(random: &mut Random, table: &Table, window: u64) -> Vec<Style> {
-    let mut styles = vec![Style::greedy(table)];
-    for _ in 0..2 {
-        styles.push(Style::phased(random, table, 2));
-        styles.push(Style::phased(random, table, window));
-        styles.push(Style::resting(random, table, window));
-        styles.push(Style::loose(random, table, window));
-    }
-    styles
-}
-
-fn judge(seed: u64, table: &Table, bounds: &[u64], history: &History, totals: &mut Totals) {
+/// Takes what a history shows into the totals.
+fn note(seed: u64, table: &Table, history: &History, judgement: &Judgement, totals: &mut Totals) {
     totals.histories += 1;
     totals.ticks += history.ticks.len() as u64;
-    if let Err(departure) = within_curves(table, history) {
+    if let Some(departure) = judgement.departure {
         totals.outside.push(format!("seed {seed}: {departure:?}"));
     }
-    if let Err(violation) = conclusions(table, bounds, history) {
+    if let Some(violation) = judgement.violation {
         let lines = history.ticks.iter().map(|&tick| Line::Tick(tick)).collect();
         let script = Script {
             table: encode(table),
@@ -106,6 +125,13 @@ fn tally(bounds: &[u64], responses: &[u64], totals: &mut Totals) {
         totals.bounds += 1;
         totals.reached += u64::from(response == bound);
         totals.thousandths += response * 1_000 / bound;
+    }
+}
+
+impl Totals {
+    /// Whether every history was within the curves and broke no conclusion.
+    pub fn in_order(&self) -> bool {
+        self.outside.is_empty() && self.violations.is_empty()
     }
 }
 

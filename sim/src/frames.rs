@@ -21,17 +21,38 @@ fn frame(input: &[u8]) -> Option<(&[u8], &[u8])> {
     rest.split_at_checked(u16::from_le_bytes(*length).into())
 }
 
-/// `NUMBER INDEX` for each frame, 0 and 0 where the reader takes it.
-pub fn readings(mut input: &[u8]) -> String {
-    let mut text = String::new();
-    while let Some((bytes, rest)) = frame(input) {
-        text += &match read(bytes) {
-            Ok(_) => "0 0\n".to_string(),
-            Err(refusal) => format!("{} {}\n", refusal.number, refusal.index),
-        };
+/// The bytes of the whole frames.
+fn frames(mut input: &[u8]) -> impl Iterator<Item = &[u8]> {
+    std::iter::from_fn(move || {
+        let (bytes, rest) = frame(input)?;
         input = rest;
-    }
-    text
+        Some(bytes)
+    })
+}
+
+/// `NUMBER INDEX` for each frame, 0 and 0 where the reader takes it.
+pub fn readings(input: &[u8]) -> String {
+    let line = |bytes| match read(bytes) {
+        Ok(_) => "0 0\n".to_string(),
+        Err(refusal) => format!("{} {}\n", refusal.number, refusal.index),
+    };
+    frames(input).map(line).collect()
+}
+
+/// The frame of `readings` that is cut short, if one is.
+pub fn cut_readings(input: &[u8]) -> Option<String> {
+    let lengths: Vec<usize> = frames(input).map(|bytes| 2 + bytes.len()).collect();
+    let whole: usize = lengths.iter().sum();
+    (whole < input.len()).then(|| format!("frame {}: cut short", lengths.len() + 1))
+}
+
+/// The frame or the tick of `replies` that is cut short, if one is. Ticks count from 0.
+pub fn cut_replies(input: &[u8]) -> Option<String> {
+    let Some((_, rest)) = frame(input) else {
+        return Some("frame 1: cut short".to_string());
+    };
+    let ticks = rest.chunks_exact(TICK_BYTES);
+    (!ticks.remainder().is_empty()).then(|| format!("tick {}: cut short", ticks.len()))
 }
 
 /// A history: a frame with the table, then the ticks.

@@ -5,3 +5,4 @@ pub mod edges;
 pub mod histories;
 pub mod states;
 pub mod tables;
+pub mod worst;

@@ -4,6 +4,7 @@
 use crate::machine::{bit, start, Answer, Reply, Tick};
 use crate::sheet::{arrivals, cost, supply};
 use crate::table::{Table, LARGEST, MOST_CALLBACKS};
+use crate::trackers::{ArrivalTracker, CostTracker, SupplyTracker};
 
 /// 'A history': the ticks, and in the same places the replies to them.
 #[derive(Clone, Debug, Default, PartialEq, Eq)]
@@ -29,7 +30,7 @@ pub fn play(bytes: &[u8], ticks: &[Tick]) -> History {
 }
 
 /// The callback and instance that an answer names.
-fn named(reply: &Reply) -> Option<(usize, u64)> {
+pub(crate) fn named(reply: &Reply) -> Option<(usize, u64)> {
     match reply.outcome {
         Ok(Answer::Ran { callback, instance }) => Some((callback, instance)),
         Ok(Answer::Finished { callback, instance }) => Some((callback, instance)),
@@ -122,17 +123,35 @@ pub enum Departure {
     },
 }
 
+/// How the first wrong window of a curve is sought.
+#[derive(Clone, Copy)]
+enum Search {
+    /// Among all windows, as the words of 'Curves' go.
+    EveryWindow,
+    /// By a tracker, which finds the end in one pass; the beginning is then sought for that end.
+    OnePass,
+}
+
 /// 'Curves', histories within them: the first departure, if any, sought tick by tick in mask and
 /// offered cost, then in the arrivals of each head, the supply, and the costs of each callback's
-/// started instances.
+/// started instances. Takes a time in proportion to the history's length.
 pub fn within_curves(table: &Table, history: &History) -> Result<(), Departure> {
+    first_departure(table, history, Search::OnePass)
+}
+
+/// The same by a look at every window, in a time that grows with the square of the length.
+pub fn within_curves_literal(table: &Table, history: &History) -> Result<(), Departure> {
+    first_departure(table, history, Search::EveryWindow)
+}
+
+fn first_departure(table: &Table, history: &History, search: Search) -> Result<(), Departure> {
     check_ticks(table, history)?;
     for head in (1..=table.count()).filter(|&i| table.is_head(i)) {
-        check_arrivals(table, history, head)?;
+        check_arrivals(table, history, head, search)?;
     }
-    check_supply(table, history)?;
+    check_supply(table, history, search)?;
     for callback in 1..=table.count() {
-        check_costs(table, history, callback)?;
+        check_costs(table, history, callback, search)?;
     }
     Ok(())
 }
@@ -140,9 +159,10 @@ pub fn within_curves(table: &Table, history: &History) -> Result<(), Departure> 
 /// 'Curves', histories within them: all bits of a mask are heads', and every cost, used or not, is
 /// one of 1 to 60,000.
 fn check_ticks(table: &Table, history: &History) -> Result<(), Departure> {
+    let strangers = (1..=MOST_CALLBACKS).filter(|&i| !table.is_head(i));
+    let strange = strangers.fold(0, |mask, i| mask | bit(i));
     for (place, tick) in history.ticks.iter().enumerate() {
-        let stranger = |i: usize| tick.mask & bit(i) != 0 && !table.is_head(i);
-        if (1..=MOST_CALLBACKS).any(stranger) {
+        if tick.mask & strange != 0 {
             return Err(Departure::Mask { tick: place });
         }
         if !(1..=LARGEST).contains(&tick.cost) {
@@ -154,45 +174,80 @@ fn check_ticks(table: &Table, history: &History) -> Result<(), Departure> {
 
 /// 'A history', windows: consecutive values inside the list. Gives the window (from, length) that
 /// ends first, and of those the one that begins first, whose values together are wrong; none where
-/// all are right.
-fn first_window(values: &[u64], wrong: impl Fn(usize, u64) -> bool) -> Option<(usize, usize)> {
-    let mut sums = vec![0];
-    for (place, value) in values.iter().enumerate() {
-        sums.push(sums[place] + value);
-    }
-    for end in 1..sums.len() {
-        for from in 0..end {
-            if wrong(end - from, sums[end] - sums[from]) {
-                return Some((from, end - from));
-            }
+/// all are right. `tracked` is asked for the place of the first end.
+fn first_window(
+    values: &[u64],
+    search: Search,
+    tracked: impl FnOnce() -> Option<usize>,
+    wrong: impl Fn(usize, u64) -> bool,
+) -> Option<(usize, usize)> {
+    match search {
+        Search::EveryWindow => {
+            (0..values.len()).find_map(|last| window_ending(&values[..=last], &wrong))
         }
+        Search::OnePass => {
+            let last = tracked()?;
+            let window = window_ending(&values[..=last], &wrong);
+            Some(window.expect("a wrong window where the tracker ends one"))
+        }
+    }
+}
+
+/// The first wrong window (from, length) among those that end where the values do.
+fn window_ending(values: &[u64], wrong: impl Fn(usize, u64) -> bool) -> Option<(usize, usize)> {
+    let mut held: u64 = values.iter().sum();
+    for (from, value) in values.iter().enumerate() {
+        let length = values.len() - from;
+        if wrong(length, held) {
+            return Some((from, length));
+        }
+        held -= value;
     }
     None
 }
 
 /// 'Curves', arrivals: in a window of D ticks the head is activated a(D) times or less often.
-fn check_arrivals(table: &Table, history: &History, head: usize) -> Result<(), Departure> {
+fn check_arrivals(
+    table: &Table,
+    history: &History,
+    head: usize,
+    search: Search,
+) -> Result<(), Departure> {
     let ticks = history.ticks.iter();
     let values: Vec<u64> = ticks
         .map(|tick| u64::from(tick.mask & bit(head) != 0))
         .collect();
-    let most: Vec<u64> = (0..=values.len() as u64)
-        .map(|d| arrivals(table.callback(head), d))
-        .collect();
-    match first_window(&values, |d, held| held > most[d]) {
+    let curve = table.callback(head);
+    let tracked = || {
+        let mut tracker = ArrivalTracker::new(curve);
+        let mut times = (0..values.len()).filter(|&time| values[time] != 0);
+        times.find(|&time| {
+            let wrong = !tracker.permits(time as u64);
+            tracker.activate(time as u64);
+            wrong
+        })
+    };
+    let wrong = |d: usize, held| held > arrivals(curve, d as u64);
+    match first_window(&values, search, tracked, wrong) {
         Some((from, length)) => Err(Departure::Arrivals { head, from, length }),
         None => Ok(()),
     }
 }
 
 /// 'Curves', supply: a window of D ticks has s(D) supplied ticks or more.
-fn check_supply(table: &Table, history: &History) -> Result<(), Departure> {
+fn check_supply(table: &Table, history: &History, search: Search) -> Result<(), Departure> {
     let ticks = history.ticks.iter();
     let values: Vec<u64> = ticks.map(|tick| u64::from(tick.supplied)).collect();
-    let least: Vec<u64> = (0..=values.len() as u64)
-        .map(|d| supply(table.budget, table.period, d))
-        .collect();
-    match first_window(&values, |d, held| held < least[d]) {
+    let tracked = || {
+        let mut tracker = SupplyTracker::new(table);
+        values.iter().position(|&value| {
+            let wrong = value == 0 && !tracker.may_starve();
+            tracker.tick(value != 0);
+            wrong
+        })
+    };
+    let wrong = |d: usize, held| held < supply(table.budget, table.period, d as u64);
+    match first_window(&values, search, tracked, wrong) {
         Some((from, length)) => Err(Departure::Supply { from, length }),
         None => Ok(()),
     }
@@ -200,13 +255,24 @@ fn check_supply(table: &Table, history: &History) -> Result<(), Departure> {
 
 /// 'Curves', cost: the costs of n instances of the callback, started one after the other, add up to
 /// E(n) or less.
-fn check_costs(table: &Table, history: &History, callback: usize) -> Result<(), Departure> {
+fn check_costs(
+    table: &Table,
+    history: &History,
+    callback: usize,
+    search: Search,
+) -> Result<(), Departure> {
     let values = history.costs(callback);
-    let entries = &table.callback(callback).entries;
-    let most: Vec<u64> = (0..=values.len() as u64)
-        .map(|n| cost(entries, n))
-        .collect();
-    match first_window(&values, |n, together| together > most[n]) {
+    let curve = table.callback(callback);
+    let tracked = || {
+        let mut tracker = CostTracker::new(curve);
+        values.iter().position(|&value| {
+            let wrong = value > tracker.largest();
+            tracker.start(value);
+            wrong
+        })
+    };
+    let wrong = |n: usize, together| together > cost(&curve.entries, n as u64);
+    match first_window(&values, search, tracked, wrong) {
         Some((from, instances)) => Err(Departure::Cost {
             callback,
             from,
@@ -252,9 +318,16 @@ pub fn conclusions(table: &Table, bounds: &[u64], history: &History) -> Result<(
 /// 'A history', starts: instance k starts at time t only with at least k activations of the
 /// callback by then, one at t included.
 fn check_starts(table: &Table, callback: usize, history: &History) -> Result<(), Violation> {
-    let activations = history.activations(table, callback);
+    let mut activations = history.activations(table, callback).into_iter().peekable();
+    let mut so_far = 0;
     for (time, instance) in history.starts(callback) {
-        let so_far = activations.partition_point(|&a| a <= time) as u64;
+        // Starts come in the order of their times, so each activation is passed once.
+        while activations
+            .next_if(|&activation| activation <= time)
+            .is_some()
+        {
+            so_far += 1;
+        }
         if so_far < instance {
             return Err(Violation::EarlyStart {
                 callback,

@@ -1,6 +1,6 @@
-//! The cue executor and its timing sheet. `table`, `sheet`, `machine` and
-//! `history` are written from document 01 alone; their comments name the
-//! section, step or refusal that the code renders.
+//! The cue executor and its timing sheet. `table`, `sheet`, `machine`,
+//! `history` and `trackers` are written from document 01 alone; their comments
+//! name the section, step or refusal that the code renders.
 
 pub mod check;
 pub mod frames;
@@ -12,3 +12,4 @@ pub mod random;
 pub mod sheet;
 pub mod table;
 pub mod text;
+pub mod trackers;

@@ -1,50 +1,53 @@
 //! A picture of a history as SVG text.
 
-use crate::history::History;
+use crate::history::{named, History};
 use crate::machine::{Answer, Reply};
 use crate::sheet::{bounds, window};
 use crate::table::{Kind, Table};
 use std::fmt::Write;
+use std::ops::Range;
 
 const LEFT: usize = 190;
 const TOP: usize = 46;
 const ROW: usize = 34;
 const BAR: usize = 16;
 
-/// A drawing in the making: the text so far and the width of a tick.
+/// A drawing in the making: the text so far, the width of a tick, the number of rows, and the ticks
+/// that are shown.
 struct Drawing {
     text: String,
     tick: usize,
     rows: usize,
-    ticks: usize,
+    shown: Range<usize>,
 }
 
 /// Rows by callback, with their names where given: arrivals, runs,
 /// completions and bounds, over unsupplied ticks and polling points.
 pub fn svg(table: &Table, history: &History, names: &[&str]) -> String {
-    let ticks = history.ticks.len();
+    svg_part(table, history, names, 0..history.ticks.len())
+}
+
+/// The part of that picture with the ticks `shown`, which the history must have.
+pub fn svg_part(table: &Table, history: &History, names: &[&str], shown: Range<usize>) -> String {
     let mut drawing = Drawing {
         text: String::new(),
-        tick: (1_400 / ticks.max(1)).clamp(6, 24),
+        tick: (1_400 / shown.len().max(1)).clamp(6, 24),
         rows: table.count(),
-        ticks,
+        shown,
     };
     drawing.open();
     drawing.unsupplied(history);
     drawing.axis();
     drawing.pauses(history);
-    for (place, reply) in history.replies.iter().enumerate() {
-        drawing.reply(place, reply, table);
+    for (time, reply) in drawing.replies(history) {
+        drawing.reply(time, reply, table);
     }
     for index in 1..=table.count() {
         drawing.row(index, table, names.get(index - 1).copied());
-        for time in history.activations(table, index) {
-            drawing.activation(index, time as usize, table.is_head(index));
-        }
-        for (time, instance) in history.starts(index) {
-            drawing.start(time as usize, index, instance);
-        }
+        drawing.activations(index, table, history);
+        drawing.starts(index, history);
     }
+    drawing.carried(history);
     if let Some(window) = window(table) {
         drawing.dues(table, history, &bounds(table, window));
     }
@@ -84,7 +87,26 @@ impl Drawing {
     }
 
     fn x(&self, time: usize) -> usize {
-        LEFT + time * self.tick
+        LEFT + (time - self.shown.start) * self.tick
+    }
+
+    /// Where the last tick ends.
+    fn right(&self) -> usize {
+        self.x(self.shown.end)
+    }
+
+    /// Whether the moment is in the picture, where the last tick ends too.
+    fn shows(&self, time: usize) -> bool {
+        (self.shown.start..=self.shown.end).contains(&time)
+    }
+
+    /// The replies to the ticks that are shown, with their times.
+    fn replies<'a>(
+        &self,
+        history: &'a History,
+    ) -> impl Iterator<Item = (usize, &'a Reply)> + use<'a> {
+        let replies = history.replies.iter().enumerate();
+        replies.take(self.shown.end).skip(self.shown.start)
     }
 
     /// Where the row of a callback stands.
@@ -118,7 +140,7 @@ impl Drawing {
     }
 
     fn open(&mut self) {
-        let width = self.x(self.ticks).max(LEFT + 920) + 30;
+        let width = self.right().max(LEFT + 920) + 30;
         let height = self.bottom() + 76;
         self.put(format_args!(
             concat!(
@@ -131,8 +153,8 @@ impl Drawing {
     }
 
     fn unsupplied(&mut self, history: &History) {
-        for (time, tick) in history.ticks.iter().enumerate() {
-            if !tick.supplied {
+        for time in self.shown.clone() {
+            if !history.ticks[time].supplied {
                 let size = (self.tick, self.bottom() - TOP);
                 self.rectangle((self.x(time), TOP), size, r##"fill="#e4e4e4""##);
             }
@@ -145,7 +167,7 @@ impl Drawing {
         for (time, reply) in history.replies.iter().enumerate() {
             match reply.outcome {
                 Ok(Answer::Ran { callback, .. }) => running = callback,
-                Ok(Answer::NoSupply) if running != 0 => {
+                Ok(Answer::NoSupply) if running != 0 && self.shown.contains(&time) => {
                     let at = (self.x(time), self.base(running) - BAR / 2 - 1);
                     self.rectangle(at, (self.tick, 2), r##"fill="#888888""##);
                 }
@@ -155,16 +177,19 @@ impl Drawing {
         }
     }
 
-    /// Marks of time below the rows, with numbers where they have room.
+    /// Marks of time below the rows, with numbers where they have room: one for each tick if they
+    /// are short and the ticks are wide.
     fn axis(&mut self) {
-        self.words((LEFT - 10, self.bottom() + 16), "end", "tick");
+        // The first number stands across the left edge, half of each digit to its left.
+        let room = 3 * (self.shown.start.to_string().len() - 1);
+        self.words((LEFT - 10 - room, self.bottom() + 16), "end", "tick");
         self.words((LEFT - 10, TOP - 14), "end", "taken by the poll");
-        let every = if self.tick >= 20 {
+        let every = if self.tick >= 20 && self.shown.end < 1_000 {
             1
         } else {
             (60 / self.tick).div_ceil(5) * 5
         };
-        for time in 0..=self.ticks {
+        for time in self.shown.start..=self.shown.end {
             let (x, y) = (self.x(time), self.bottom());
             self.line((x, y), (x, y + 4), r##"stroke="#888888""##);
             if time % every == 0 {
@@ -176,7 +201,7 @@ impl Drawing {
     fn row(&mut self, index: usize, table: &Table, name: Option<&str>) {
         let callback = table.callback(index);
         let y = self.base(index);
-        self.line((LEFT, y), (self.x(self.ticks), y), r##"stroke="#888888""##);
+        self.line((LEFT, y), (self.right(), y), r##"stroke="#888888""##);
         let next = if callback.next == 0 {
             String::new()
         } else {
@@ -188,6 +213,18 @@ impl Drawing {
             None => format!("{index} {kind}{next}"),
         };
         self.words((LEFT - 10, y - 4), "end", &label);
+    }
+
+    /// The activations of a callback. A head's belongs to the tick that begins there, a follower's
+    /// to the moment between two ticks.
+    fn activations(&mut self, index: usize, table: &Table, history: &History) {
+        let head = table.is_head(index);
+        for time in history.activations(table, index) {
+            let time = time as usize;
+            if self.shown.contains(&time) || (!head && self.shows(time)) {
+                self.activation(index, time, head);
+            }
+        }
     }
 
     /// Release of an instance: dark for a head's, light for a follower's.
@@ -212,7 +249,7 @@ impl Drawing {
             let heads = history.activations(table, table.head_of(index));
             for (place, activation) in heads.into_iter().enumerate() {
                 let due = (activation + bounds[index - 1]) as usize;
-                if due <= self.ticks {
+                if self.shows(due) {
                     let (x, y) = (self.x(due), self.base(index));
                     self.due_sign(x, y);
                     self.words((x + 4, y - BAR - 2), "start", &(place + 1).to_string());
@@ -260,14 +297,42 @@ impl Drawing {
         self.rectangle(at, (self.tick, BAR), &format!(r#"fill="{fill}""#));
     }
 
-    /// An edge at the left of the first tick, and the instance's number.
-    fn start(&mut self, time: usize, callback: usize, instance: u64) {
-        let (x, y) = (self.x(time), self.base(callback));
-        let style = r##"stroke="#222222" stroke-width="2""##;
-        self.line((x, y - BAR), (x, y), style);
-        if self.tick >= 12 {
-            let at = (x + self.tick / 2 + 1, y - 4);
-            self.words(at, "middle", &instance.to_string());
+    /// The starts of a callback: an edge at the left of the first tick, and the instance's number.
+    fn starts(&mut self, index: usize, history: &History) {
+        for (time, instance) in history.starts(index) {
+            let time = time as usize;
+            if self.shown.contains(&time) {
+                let (x, y) = (self.x(time), self.base(index));
+                let style = r##"stroke="#222222" stroke-width="2""##;
+                self.line((x, y - BAR), (x, y), style);
+                self.instance(time, index, instance);
+            }
+        }
+    }
+
+    /// The number of an instance in one of its ticks, where there is room; a long one goes on to
+    /// the right.
+    fn instance(&mut self, time: usize, callback: usize, instance: u64) {
+        let (x, y) = (self.x(time), self.base(callback) - 4);
+        let number = instance.to_string();
+        if self.tick < 12 {
+            return;
+        }
+        if number.len() <= 3 {
+            self.words((x + self.tick / 2 + 1, y), "middle", &number);
+        } else {
+            self.words((x + 3, y), "start", &number);
+        }
+    }
+
+    /// The number of an instance that started before the picture begins, where it first runs in it.
+    fn carried(&mut self, history: &History) {
+        let mut replies = self.replies(history);
+        let first = replies.find_map(|(time, reply)| Some((time, reply, named(reply)?)));
+        if let Some((time, reply, (callback, instance))) = first {
+            if !reply.started {
+                self.instance(time, callback, instance);
+            }
         }
     }
 

@@ -161,6 +161,28 @@ pub fn analyse(bytes: &[u8], row: &mut [u16]) -> Result<u64, Refusal> {
     Ok(window)
 }
 
+/// What the analyser says of the bytes that it takes.
+#[derive(Clone, Debug, PartialEq, Eq)]
+pub struct Sheet {
+    pub table: Table,
+    pub window: u64,
+    /// The bounds of callbacks 1 to n.
+    pub bounds: Vec<u64>,
+}
+
+/// The table, W and the bounds of these bytes, or the analyser's refusal.
+pub fn sheet(bytes: &[u8]) -> Result<Sheet, Refusal> {
+    let mut row = [0; MOST_CALLBACKS];
+    let window = analyse(bytes, &mut row)?;
+    let table = read(bytes)?;
+    let bounds = row[..table.count()].iter().map(|&b| b.into()).collect();
+    Ok(Sheet {
+        table,
+        window,
+        bounds,
+    })
+}
+
 /// Refusal 16: the lowest head with more than 255 arrivals in the window, if there is one.
 fn crowded_head(table: &Table, window: u64) -> Option<usize> {
     (1..=table.count()).find(|&i| table.is_head(i) && arrivals(table.callback(i), window) > 255)

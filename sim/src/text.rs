@@ -1,6 +1,8 @@
-//! The text of tables, histories and replies.
+//! The text of tables, histories, replies and judgements. What cannot be read is told with its
+//! line, counted from 1 in the text as given.
 
-use crate::history::Departure;
+use crate::check::Judgement;
+use crate::history::{Departure, Violation};
 use crate::machine::{Answer, Reply, Start, State, Tick};
 use crate::table::Refusal;
 
@@ -56,12 +58,15 @@ pub fn from_hex(text: &str) -> Result<Vec<u8>, String> {
     (0..text.len() / 2)
         .map(|place| {
             let pair = &text[2 * place..2 * place + 2];
-            u8::from_str_radix(pair, 16).map_err(|_| format!("not hex: {pair}"))
+            // A number may have a sign, two digits may not.
+            let digits = pair.bytes().all(|byte| byte.is_ascii_hexdigit());
+            let byte = u8::from_str_radix(pair, 16).ok().filter(|_| digits);
+            byte.ok_or_else(|| format!("not hex: {pair}"))
         })
         .collect()
 }
 
-fn number(word: &str) -> Result<u64, String> {
+pub fn number(word: &str) -> Result<u64, String> {
     word.parse().map_err(|_| format!("not a number: {word}"))
 }
 
@@ -112,14 +117,69 @@ fn line(text: &str) -> Result<Line, String> {
     }
 }
 
-/// Empty lines after the first, and lines that begin with #, say nothing.
+/// What a row says, or its fault with the row's number.
+fn at_line<T>(number: usize, said: Result<T, String>) -> Result<T, String> {
+    said.map_err(|fault| format!("line {number}: {fault}"))
+}
+
+/// Bytes as text.
+pub fn text_of(bytes: Vec<u8>) -> Result<String, String> {
+    String::from_utf8(bytes).map_err(|error| {
+        let before = &error.as_bytes()[..error.utf8_error().valid_up_to()];
+        let number = 1 + before.iter().filter(|&&byte| byte == b'\n').count();
+        format!("line {number}: not text")
+    })
+}
+
+/// The bytes in hex of every row.
+pub fn hex_rows(text: &str) -> Result<Vec<Vec<u8>>, String> {
+    let rows = text.lines().zip(1..);
+    rows.map(|(row, number)| at_line(number, from_hex(row)))
+        .collect()
+}
+
+/// The bytes in hex of the only row that is not empty; none where all are.
+pub fn hex_row(text: &str) -> Result<Vec<u8>, String> {
+    let rows = text.lines().zip(1..);
+    let mut said = rows.filter(|(row, _)| !row.trim().is_empty());
+    let bytes = match said.next() {
+        Some((row, number)) => at_line(number, from_hex(row))?,
+        None => Vec::new(),
+    };
+    match said.next() {
+        Some((_, number)) => at_line(number, Err("more than one line of hex".to_string())),
+        None => Ok(bytes),
+    }
+}
+
+/// A line of a history with the number of its row.
+pub type Numbered = (usize, Line);
+
+/// A history's table and its lines. Empty rows after the first, and rows that begin with #, say
+/// nothing.
+pub fn numbered_script(text: &str) -> Result<(Vec<u8>, Vec<Numbered>), String> {
+    let mut rows = text.lines().zip(1..);
+    let table = at_line(1, from_hex(rows.next().map_or("", |(row, _)| row)))?;
+    let said = rows.filter(|(row, _)| !row.trim().is_empty() && !row.starts_with('#'));
+    let lines = said.map(|(row, number)| Ok((number, at_line(number, line(row))?)));
+    Ok((table, lines.collect::<Result<_, String>>()?))
+}
+
+/// The ticks of a history that writes nothing into the state.
+pub fn plain_ticks(lines: &[Numbered]) -> Result<Vec<Tick>, String> {
+    let tick = |(number, line): &Numbered| match line {
+        Line::Tick(tick) => Ok(*tick),
+        Line::Set(_) => at_line(*number, Err("set lines are for replay only".to_string())),
+    };
+    lines.iter().map(tick).collect()
+}
+
+/// A history's text as `numbered_script` reads it, without the numbers.
 pub fn script(text: &str) -> Result<Script, String> {
-    let mut rows = text.lines();
-    let table = from_hex(rows.next().unwrap_or(""))?;
-    let said = rows.filter(|row| !row.trim().is_empty() && !row.starts_with('#'));
+    let (table, lines) = numbered_script(text)?;
     Ok(Script {
         table,
-        lines: said.map(line).collect::<Result<_, _>>()?,
+        lines: lines.into_iter().map(|(_, line)| line).collect(),
     })
 }
 
@@ -164,6 +224,43 @@ pub fn departure_text(departure: &Departure) -> String {
         Departure::Mask { tick } => format!("outside mask {tick}"),
         Departure::CostRange { tick } => format!("outside range {tick}"),
     }
+}
+
+/// Which of demand 3's conclusions a history breaks.
+pub fn violation_text(violation: &Violation) -> String {
+    match violation {
+        Violation::Refused { tick } => format!("broken refusal tick {tick}"),
+        Violation::EarlyStart {
+            callback,
+            instance,
+            time,
+        } => format!("broken start {callback} instance {instance} at {time}"),
+        Violation::Late {
+            callback,
+            k,
+            activation,
+            completion,
+        } => {
+            let completed = completion.map_or("never".to_string(), |time| time.to_string());
+            format!("broken bound {callback} activation {k} at {activation} completed {completed}")
+        }
+    }
+}
+
+/// Whether a history is within the curves, then index, bound and longest response of each callback.
+/// Demand 3 asks something only of a history within them; what fails of that comes last.
+pub fn judgement_text(bounds: &[u64], judgement: &Judgement) -> String {
+    let mut lines = vec![match &judgement.departure {
+        Some(departure) => departure_text(departure),
+        None => "within".to_string(),
+    }];
+    for (place, (bound, longest)) in bounds.iter().zip(&judgement.longest).enumerate() {
+        lines.push(format!("{} {bound} {longest}", place + 1));
+    }
+    if let (None, Some(violation)) = (&judgement.departure, &judgement.violation) {
+        lines.push(violation_text(violation));
+    }
+    lines.join("\n") + "\n"
 }
 
 pub fn start_text(start: &Start) -> String {

@@ -146,6 +146,11 @@ fn early_start_is_seen() {
         time: 0,
     };
     assert_eq!(conclusions(&chain(), &[6, 6, 6], &history), Err(early));
+    // One tick late is late; at the time of the start is not.
+    history.ticks[1].mask = 1;
+    assert_eq!(conclusions(&chain(), &[6, 6, 6], &history), Err(early));
+    history.ticks[0].mask = 1;
+    assert_eq!(conclusions(&chain(), &[6, 6, 6], &history), Ok(()));
 }
 
 /// Histories outside the curves reach each of the refusals 19 to 21.

@@ -7,20 +7,6 @@ use sim::generate::edges::{base, edges};
 use sim::generate::histories::covering;
 use sim::table::encode;
 use sim::text::{from_hex, hex, script, script_text};
-use std::io::Write;
-use std::process::{Command, Stdio};
-
-/// What the program prints on these words and input.
-fn program(words: &[&str], input: &[u8]) -> String {
-    let mut child = Command::new(env!("CARGO_BIN_EXE_sim"))
-        .args(words)
-        .stdin(Stdio::piped())
-        .stdout(Stdio::piped())
-        .spawn()
-        .unwrap();
-    child.stdin.take().unwrap().write_all(input).unwrap();
-    String::from_utf8(child.wait_with_output().unwrap().stdout).unwrap()
-}
 
 /// The program's print of P6.
 #[test]
@@ -83,6 +69,8 @@ fn picture_has_its_parts() {
 #[test]
 fn bad_text_is_named() {
     assert!(from_hex("0g").is_err() && from_hex("012").is_err() && from_hex("é").is_err());
+    assert!(from_hex("+1").is_err() && from_hex("00-1").is_err() && from_hex("1 ").is_err());
+    assert_eq!(from_hex(" aBf0 "), Ok(vec![0xab, 0xf0]));
     assert!(script("\n1 2 3\n").is_err() && script("\n1 1\n").is_err());
     assert!(script("\n65536 1 3\n").is_err() && script("\nset waiting 17 1\n").is_err());
 }

@@ -3,8 +3,8 @@
 use crate::history::History;
 use crate::machine::{bit, start, Answer, State, Tick};
 use crate::random::Random;
-use crate::sheet::{arrivals, cost, supply};
 use crate::table::{encode, Table, LARGEST, MOST_CALLBACKS};
+use crate::trackers::{ArrivalTracker, CostTracker, SupplyTracker};
 
 /// How hard a history presses. With everything at a hundred percent each
 /// arrival, unsupplied tick and unit of cost is taken as soon as the curves
@@ -65,39 +65,63 @@ impl Style {
         style.costly = *random.pick(&[0, 50, 90, 100]);
         style
     }
+
+    /// One of the four, with phases and rests of about `span`.
+    pub fn any(random: &mut Random, table: &Table, span: u64) -> Style {
+        match random.range(0, 3) {
+            0 => Style::greedy(table),
+            1 => Style::phased(random, table, span),
+            2 => Style::resting(random, table, span),
+            _ => Style::loose(random, table, span),
+        }
+    }
+
+    /// Greedy at turn 0; then in turn phased within two ticks, phased within `span`, resting and
+    /// loose.
+    pub fn of_turn(random: &mut Random, table: &Table, span: u64, turn: u64) -> Style {
+        if turn == 0 {
+            return Style::greedy(table);
+        }
+        match turn % 4 {
+            1 => Style::phased(random, table, 2),
+            2 => Style::phased(random, table, span),
+            3 => Style::resting(random, table, span),
+            _ => Style::loose(random, table, span),
+        }
+    }
 }
 
-/// A history in the making, with what the curves need to know of it.
+/// The span for phases and rests in a history of `length` ticks: a window, or less where the
+/// history would be over before a phase or a rest of that size is.
+pub fn span(window: u64, length: u64) -> u64 {
+    window.min(length / 4).max(1)
+}
+
+/// A history in the making, with what the curves still permit.
 struct Driver<'a> {
-    table: &'a Table,
+    heads: Vec<usize>,
     state: State,
     history: History,
-    /// Supplied ticks among the first 0, 1, 2 and so on.
-    supplied: Vec<u64>,
-    /// s(0), s(1), s(2) and so on.
-    least: Vec<u64>,
-    /// By place of the callback: arrival times, and costs of started instances.
-    arrived: Vec<Vec<u64>>,
-    costs: Vec<Vec<u64>>,
+    supply: SupplyTracker,
+    /// By place of the callback.
+    arrivals: Vec<ArrivalTracker>,
+    costs: Vec<CostTracker<'a>>,
 }
 
 /// A history within the curves, of `length` ticks.
 pub fn within(random: &mut Random, table: &Table, style: &Style, length: u64) -> History {
     let mut driver = Driver {
-        table,
+        heads: (1..=table.count()).filter(|&i| table.is_head(i)).collect(),
         state: start(&encode(table)).state,
         history: History::default(),
-        supplied: vec![0],
-        least: (0..=length)
-            .map(|d| supply(table.budget, table.period, d))
-            .collect(),
-        arrived: vec![Vec::new(); table.count()],
-        costs: vec![Vec::new(); table.count()],
+        supply: SupplyTracker::new(table),
+        arrivals: table.callbacks.iter().map(ArrivalTracker::new).collect(),
+        costs: table.callbacks.iter().map(CostTracker::new).collect(),
     };
     for time in 0..length {
         let mask = driver.mask(random, style, time);
         let starved =
-            time >= style.starve_from && driver.may_starve() && random.chance(style.starve);
+            time >= style.starve_from && driver.supply.may_starve() && random.chance(style.starve);
         driver.take(random, style, mask, !starved);
     }
     driver.history
@@ -110,31 +134,15 @@ impl Driver<'_> {
         if time % (style.busy + style.quiet) >= style.busy {
             return mask;
         }
-        for index in (1..=self.table.count()).filter(|&i| self.table.is_head(i)) {
-            let due = time >= style.phases[index - 1] && self.may_arrive(index, time);
+        for &head in &self.heads {
+            let tracker = &mut self.arrivals[head - 1];
+            let due = time >= style.phases[head - 1] && tracker.permits(time);
             if due && random.chance(style.arrive) {
-                mask |= bit(index);
-                self.arrived[index - 1].push(time);
+                mask |= bit(head);
+                tracker.activate(time);
             }
         }
         mask
-    }
-
-    /// Whether every window that ends with this tick could hold one more.
-    fn may_arrive(&self, head: usize, time: u64) -> bool {
-        let earlier = &self.arrived[head - 1];
-        let count = earlier.len() as u64;
-        earlier.iter().enumerate().all(|(place, &at)| {
-            count - (place as u64) < arrivals(self.table.callback(head), time - at + 1)
-        })
-    }
-
-    /// Whether every window that ends with this tick would have its supply
-    /// without it.
-    fn may_starve(&self) -> bool {
-        let ticks = self.supplied.len() - 1;
-        let total = self.supplied[ticks];
-        (0..=ticks).all(|from| total - self.supplied[from] >= self.least[ticks + 1 - from])
     }
 
     /// Plays one tick; its cost is what the starting instance is given.
@@ -149,13 +157,13 @@ impl Driver<'_> {
         if let (true, Ok(Answer::Ran { callback, .. } | Answer::Finished { callback, .. })) =
             (reply.started, reply.outcome)
         {
-            let most = self.largest_cost(callback);
+            let most = self.costs[callback - 1].largest();
             cost = if random.chance(style.costly) {
                 most
             } else {
                 random.range(1, most)
             };
-            self.costs[callback - 1].push(cost);
+            self.costs[callback - 1].start(cost);
         }
         let tick = Tick {
             mask,
@@ -166,21 +174,7 @@ impl Driver<'_> {
         self.state = step.state;
         self.history.ticks.push(tick);
         self.history.replies.push(step.reply);
-        self.supplied
-            .push(self.supplied[self.supplied.len() - 1] + u64::from(supplied));
-    }
-
-    /// The largest cost with which every run of instances that ends with this
-    /// one still costs at most E.
-    fn largest_cost(&self, callback: usize) -> u64 {
-        let entries = &self.table.callback(callback).entries;
-        let mut most = entries[0];
-        let mut sum = 0;
-        for (place, earlier) in self.costs[callback - 1].iter().rev().enumerate() {
-            sum += earlier;
-            most = most.min(cost(entries, place as u64 + 2) - sum);
-        }
-        most
+        self.supply.tick(supplied);
     }
 }
 

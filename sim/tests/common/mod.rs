@@ -1,9 +1,11 @@
-//! Small tables for the tests.
+//! Small tables for the tests, and the program.
 #![allow(dead_code)]
 
 use sim::machine::Tick;
 use sim::sheet::analyse;
 use sim::table::{encode, Callback, Kind, Refusal, Table};
+use std::io::Write;
+use std::process::{Command, Output, Stdio};
 
 /// A lone callback.
 pub fn lone(kind: Kind, period: u64, jitter: u64, distance: u64, entries: &[u64]) -> Callback {
@@ -87,4 +89,50 @@ pub fn unsupplied(mask: u16, cost: u64) -> Tick {
         supplied: false,
         cost,
     }
+}
+
+/// How the program ended.
+#[derive(Debug)]
+pub struct Ended {
+    pub status: Option<i32>,
+    pub output: String,
+    pub error: String,
+}
+
+impl From<Output> for Ended {
+    fn from(output: Output) -> Ended {
+        Ended {
+            status: output.status.code(),
+            output: String::from_utf8(output.stdout).unwrap(),
+            error: String::from_utf8(output.stderr).unwrap(),
+        }
+    }
+}
+
+/// The program on these words and this input.
+pub fn run(words: &[&str], input: &[u8]) -> Ended {
+    let mut child = Command::new(env!("CARGO_BIN_EXE_sim"))
+        .args(words)
+        .stdin(Stdio::piped())
+        .stdout(Stdio::piped())
+        .stderr(Stdio::piped())
+        .spawn()
+        .unwrap();
+    // A command that does not read its input may have ended by now.
+    let _ = child.stdin.take().unwrap().write_all(input);
+    child.wait_with_output().unwrap().into()
+}
+
+/// What the program prints on these words and input.
+pub fn program(words: &[&str], input: &[u8]) -> String {
+    run(words, input).output
+}
+
+/// A number that stands for a text (FNV-1a), to compare it with one of before.
+pub fn digest(texts: impl IntoIterator<Item = String>) -> u64 {
+    let mut digest = 0xcbf2_9ce4_8422_2325;
+    for byte in texts.into_iter().flat_map(String::into_bytes) {
+        digest = (digest ^ u64::from(byte)).wrapping_mul(0x0000_0100_0000_01b3);
+    }
+    digest
 }

@@ -1,0 +1,230 @@
+//! Histories drawn for a table, and those that seeds have always given.
+
+mod common;
+use common::*;
+use sim::generate::histories::{span, within, Style};
+use sim::generate::tables::{table, Shape};
+use sim::generate::worst::{tries, worst};
+use sim::history::{longest_response, play, within_curves, History};
+use sim::random::Random;
+use sim::sheet::{sheet as analysed, Sheet};
+use sim::table::{encode, Kind, Table};
+use sim::text::{hex, script, Line, Script};
+
+/// A chain and two lone callbacks in partial supply, all with room for bursts.
+fn desk() -> Table {
+    let mut callbacks = vec![
+        lone(Kind::Timer, 40, 2, 38, &[2]),
+        follower(Kind::Subscription, &[3]),
+        lone(Kind::Service, 200, 150, 50, &[9, 14]),
+        lone(Kind::Client, 100, 90, 10, &[2]),
+    ];
+    callbacks[0].next = 2;
+    supplied(6, 10, callbacks)
+}
+
+fn plain(script: &Script) -> History {
+    let ticks: Vec<_> = script
+        .lines
+        .iter()
+        .map(|line| match line {
+            Line::Tick(tick) => *tick,
+            Line::Set(_) => panic!("a set line"),
+        })
+        .collect();
+    play(&script.table, &ticks)
+}
+
+/// What seeds gave before the trackers, as digests.
+#[test]
+fn seeds_give_what_they_gave() {
+    let drawn = |sort: &'static str| {
+        digest((1..=60).map(move |seed: u64| {
+            program(
+                &["generate", "history", &seed.to_string(), sort, "400"],
+                b"",
+            )
+        }))
+    };
+    assert_eq!(drawn("within"), WITHIN);
+    assert_eq!(drawn("outside"), OUTSIDE);
+    assert_eq!(drawn("faulty"), FAULTY);
+    let tables = program(&["generate", "tables", "1", "300"], b"");
+    assert_eq!(digest([tables]), TABLES);
+    assert_eq!(digest([program(&["check", "1", "60"], b"")]), CHECK);
+}
+
+const WITHIN: u64 = 0xacb8_c0f9_49cd_3913;
+const OUTSIDE: u64 = 0x25c9_bbab_649c_b647;
+const FAULTY: u64 = 0x0f75_9327_8100_f09f;
+const TABLES: u64 = 0x4843_d329_0dcc_8905;
+const CHECK: u64 = 0xd494_03b1_6623_4f62;
+
+#[test]
+fn histories_of_a_given_table() {
+    let bytes = encode(&desk());
+    for (seed, length) in [
+        ("1", 300),
+        ("2", 300),
+        ("3", 20),
+        ("4", 3),
+        ("5", 0),
+        ("6", 400),
+    ] {
+        let ticks = length.to_string();
+        for sort in ["within", "worst"] {
+            let ended = run(&["generate", "history", seed, sort, &ticks, "-"], &bytes);
+            assert_eq!((ended.status, &ended.error[..]), (Some(0), ""));
+            let drawn = script(&ended.output).unwrap();
+            assert_eq!((&drawn.table, drawn.lines.len()), (&bytes, length));
+            assert_eq!(within_curves(&desk(), &plain(&drawn)), Ok(()));
+            let judged = run(&["within"], ended.output.as_bytes());
+            assert_eq!(judged.status, Some(0));
+        }
+        for sort in ["outside", "faulty"] {
+            let ended = run(&["generate", "history", seed, sort, &ticks, "-"], &bytes);
+            assert_eq!((ended.status, &ended.error[..]), (Some(0), ""));
+            assert_eq!(script(&ended.output).unwrap().table, bytes);
+        }
+    }
+}
+
+/// A table in a file and on standard input is the same.
+#[test]
+fn table_in_a_file() {
+    let file = std::env::temp_dir().join(format!("sim-{}.table", std::process::id()));
+    std::fs::write(&file, encode(&desk())).unwrap();
+    let name = file.to_str().unwrap();
+    let words = ["generate", "history", "7", "within", "50"];
+    let named = run(&[&words[..], &[name]].concat(), b"");
+    let given = run(&[&words[..], &["-"]].concat(), &encode(&desk()));
+    std::fs::remove_file(&file).unwrap();
+    assert_eq!((named.status, named.output), (Some(0), given.output));
+    let missing = run(&[&words[..], &[name]].concat(), b"");
+    assert_eq!((missing.status, &missing.output[..]), (Some(2), ""));
+    assert!(missing.error.starts_with(name) && missing.error.lines().count() == 1);
+}
+
+/// A table that the analyser refuses has no history within its curves or near its bounds, but
+/// others; one that the reader refuses has none.
+#[test]
+fn refused_tables() {
+    let crowded = encode(&full(vec![subscription(1, &[2])]));
+    for (sort, reads_only) in [
+        ("within", false),
+        ("worst", false),
+        ("outside", true),
+        ("faulty", true),
+    ] {
+        let words = ["generate", "history", "1", sort, "9", "-"];
+        let ended = run(&words, &crowded);
+        if reads_only {
+            assert_eq!((ended.status, &ended.error[..]), (Some(0), ""));
+        } else {
+            assert_eq!(
+                (ended.status, &ended.error[..]),
+                (Some(1), "refused 15 0\n")
+            );
+            assert!(ended.output.is_empty());
+        }
+        let ended = run(&words, &crowded[..47]);
+        assert_eq!((ended.status, &ended.error[..]), (Some(1), "refused 4 0\n"));
+        assert!(ended.output.is_empty());
+    }
+}
+
+/// Phases and rests of a table with a long window leave room in a short history.
+#[test]
+fn short_histories_of_long_windows() {
+    assert_eq!(
+        [(72, 2_000), (72, 100), (60_000, 100), (5, 3)].map(|(w, n)| span(w, n)),
+        [72, 25, 25, 1]
+    );
+    let table = supplied(
+        30_000,
+        50_000,
+        vec![lone(Kind::Client, 60_000, 60_000, 5, &[900])],
+    );
+    assert!(analysed(&encode(&table)).unwrap().window > 20_000);
+    for seed in 1..=20u64 {
+        let words = [
+            "generate",
+            "history",
+            &seed.to_string(),
+            "within",
+            "200",
+            "-",
+        ];
+        let drawn = script(&run(&words, &encode(&table)).output).unwrap();
+        assert!(!plain(&drawn).activations(&table, 1).is_empty());
+    }
+}
+
+/// The largest part of a bound that a response takes. (parts of bounds up to 60,000 differ by far
+/// more than the rounding)
+fn nearness(sheet: &Sheet, history: &History) -> f64 {
+    let part = |index: usize| {
+        let longest = longest_response(&sheet.table, index, history);
+        longest as f64 / sheet.bounds[index - 1] as f64
+    };
+    (1..=sheet.table.count()).map(part).fold(0.0, f64::max)
+}
+
+/// All that are tried for a sheet.
+fn tried(random: &mut Random, sheet: &Sheet, length: u64) -> Vec<History> {
+    let span = span(sheet.window, length);
+    let mut drawn = |turn| {
+        let style = Style::of_turn(random, &sheet.table, span, turn);
+        within(random, &sheet.table, &style, length)
+    };
+    (0..tries(length)).map(&mut drawn).collect()
+}
+
+/// The worst of the tried histories is the first that comes nearest to a bound. Often that is not
+/// the one with the longest response.
+#[test]
+fn worst_of_all_that_are_tried() {
+    let mut longest_elsewhere = 0;
+    for seed in 1..=40 {
+        let table = table(&mut Random::new(seed), Shape::Small);
+        let Ok(sheet) = analysed(&encode(&table)) else {
+            continue;
+        };
+        let mut randoms = [Random::new(seed), Random::new(seed)];
+        let chosen = worst(&mut randoms[0], &sheet, 80);
+        let tried = tried(&mut randoms[1], &sheet, 80);
+        assert_eq!(randoms[0].bits(), randoms[1].bits());
+        let nearest = |history: &History| nearness(&sheet, history);
+        let most = tried.iter().map(nearest).fold(0.0, f64::max);
+        let first = tried.iter().find(|history| nearest(history) == most);
+        assert_eq!(Some(&chosen), first);
+        let longest = |history: &History| {
+            let callbacks = 1..=sheet.table.count();
+            callbacks
+                .map(|index| longest_response(&sheet.table, index, history))
+                .max()
+        };
+        let longer = tried
+            .iter()
+            .any(|history| longest(history) > longest(&chosen));
+        longest_elsewhere += u64::from(longer);
+    }
+    assert!(longest_elsewhere > 0);
+    assert_eq!(
+        [0, 100, 2_500, 10_000, 10_000_000].map(tries),
+        [200, 200, 200, 50, 5]
+    );
+}
+
+/// The sort needs no table, as the others do not.
+#[test]
+fn worst_of_a_drawn_table() {
+    let drawn = |words: &[&str]| script(&program(words, b"")).unwrap();
+    for seed in ["1", "2", "3"] {
+        let any = drawn(&["generate", "history", seed, "within", "120"]);
+        let near = drawn(&["generate", "history", seed, "worst", "120"]);
+        assert_eq!(hex(&any.table), hex(&near.table));
+        let sheet = analysed(&near.table).unwrap();
+        assert!(nearness(&sheet, &plain(&near)) >= nearness(&sheet, &plain(&any)));
+    }
+}
