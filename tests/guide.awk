@@ -24,14 +24,15 @@ NF == 11 && $2 ~ /^[0-9]+$/ { n = $2; kind[n] = $4; following[n] = $5; period[n]
 NF == 7 && $4 ~ /^[0-9]+[.][0-9]/ { measured[$2] = $4; coarse[$2] = $5; fine[$2] = $6 }
 END {
     for (i = 1; i <= n; i++) {
-        if (entries(i, 10) != fine[i] || entries(i, 1) != coarse[i]) bad = 1
+        if (entries(i, 10) != fine[i] || entries(i, 1) != coarse[i]) bad = i
         text = entry[1]
         for (k = 2; k <= used; k++) text = text ", " entry[k]
-        if (text != cost[i]) bad = 1
+        if (text != cost[i]) bad = i
         entries(i, scale)
         printf "%02x%02x%02x00%s%s%s0000", kind[i], following[i], used, word(scale * period[i]), word(scale * jitter[i]), word(scale * distance[i])
         for (k = 1; k <= 8; k++) printf "%s", word(entry[k])
         printf "00000000"
     }
+    if (bad) print "the costs of callback " bad " in the guide are not those of the times measured" >"/dev/stderr"
     exit bad || n == 0
 }
