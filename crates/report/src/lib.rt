@@ -3,7 +3,6 @@
 
 mod input;
 
-use input::Input;
 use libc::STDERR_FILENO;
 use libc::STDOUT_FILENO;
 use sheet::Sheet;
