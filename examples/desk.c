@@ -213,7 +213,10 @@ static void run_ticks(const char *name, FILE *file, uint8_t *state, size_t lengt
 static void run_history(const char *name, table of)
 {
     FILE *file = opened(name, "r");
-    if (!fgets(line, sizeof line, file) || !spells(of))
+    int spelt = fgets(line, sizeof line, file) && spells(of);
+    if (ferror(file))
+        fail(name, "cannot be read");
+    if (!spelt)
         fail_at(name, 1, "recorded for another table");
     size_t length = cuorfelt_state_length();
     uint8_t *state = lend(name, length, 1);

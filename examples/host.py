@@ -5,11 +5,13 @@
 
 Ends with 0, with 1 where something was refused, with 2 where a file cannot be read or the output not be written."""
 import ctypes
+import re
 import sys
 
 PLACES = 16
 STATE_LENGTH = 640
 BYTES = ctypes.POINTER(ctypes.c_uint8)
+TICK = re.compile(r"(\d+) ([01]) (\d+)")
 
 
 class Refusal(ctypes.Structure):
@@ -38,6 +40,23 @@ def library():
     return cuorfelt
 
 
+def offer(number, line):
+    """Mask, supplied and cost of a line, by its number."""
+    words = TICK.fullmatch(" ".join(line.split()))
+    mask, supplied, cost = (int(word) for word in words.groups()) if words else (-1, 0, 0)
+    if not 0 <= mask < 2**16 or cost >= 2**32:
+        raise ValueError(f"line {number}: not a tick")
+    return mask, supplied, cost
+
+
+def offers(table, history):
+    """The ticks of a history, whose first line is the table in hex."""
+    lines = history.splitlines() or [""]
+    if lines[0] != table.hex():
+        raise ValueError("line 1: recorded for another table")
+    return [offer(number, line) for number, line in enumerate(lines, 1) if number > 1 and line and line[0] != "#"]
+
+
 def sheet(cuorfelt, table):
     row = (ctypes.c_uint16 * PLACES)()
     found = cuorfelt.cuorfelt_analyse(table, len(table), row, PLACES)
@@ -53,36 +72,40 @@ def reply_text(tick, r):
     return f"{tick} {answer} {r.callback} {r.instance} {r.started} {r.polled} {r.gathered}"
 
 
-def replies(cuorfelt, table, history):
+def replies(cuorfelt, table, ticks):
     state = (ctypes.c_uint8 * STATE_LENGTH)()
     refusal = cuorfelt.cuorfelt_start(table, len(table), state, STATE_LENGTH)
     if refusal.number:
         return [f"start refused {refusal.number} {refusal.index}"]
-    lines = (line.split() for line in history[1:] if line.strip() and not line.startswith("#"))
-    offers = ([int(word) for word in words] for words in lines)
     return ["start accepted"] + [
-        reply_text(tick, cuorfelt.cuorfelt_tick(state, STATE_LENGTH, mask, supplied, cost))
-        for tick, (mask, supplied, cost) in enumerate(offers)
+        reply_text(tick, cuorfelt.cuorfelt_tick(state, STATE_LENGTH, *offered)) for tick, offered in enumerate(ticks)
     ]
 
 
-def main():
-    if len(sys.argv) != 3:
+def run(table_name, history_name):
+    """Whether something was refused."""
+    with open(table_name, "rb") as file:
+        table = file.read()
+    with open(history_name, encoding="ascii") as file:
+        ticks = offers(table, file.read())
+    cuorfelt = library()
+    lines = sheet(cuorfelt, table) + replies(cuorfelt, table, ticks)
+    if sys.stdout is None:
+        raise OSError("standard output: closed")
+    print("\n".join(lines), flush=True)
+    return any("refused" in line for line in lines)
+
+
+def main(words):
+    if len(words) != 2:
         print("usage: host.py TABLE HISTORY", file=sys.stderr)
         return 2
     try:
-        with open(sys.argv[1], "rb") as file:
-            table = file.read()
-        with open(sys.argv[2], encoding="ascii") as file:
-            history = file.read().splitlines()
-        cuorfelt = library()
-        lines = sheet(cuorfelt, table) + replies(cuorfelt, table, history)
-        print("\n".join(lines), flush=True)
-    except OSError as error:
-        print(f"host.py: {error}", file=sys.stderr)
+        return int(run(*words))
+    except (OSError, ValueError) as fault:
+        print(f"host.py: {fault}", file=sys.stderr)
         return 2
-    return int(any("refused" in line for line in lines))
 
 
 if __name__ == "__main__":
-    sys.exit(main())
+    sys.exit(main(sys.argv[1:]))

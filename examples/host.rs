@@ -1,8 +1,10 @@
 //! A host in Rust: prints the sheet of a table and the replies to a recorded history, as desk.c does without its words.
 //!
+//!     rustc --edition 2021 -O host.rs -L PREFIX/lib
 //!     host TABLE HISTORY
 //!
-//! Ends with 0, with 1 where something was refused, with 2 where a file cannot be read or the output not be written.
+//! Ends with 0, with 1 where something was refused, with 2 where a file cannot be read or the output not be written. (Rust itself takes a
+//! closed output for one that is thrown away.)
 
 use std::io::Write;
 
@@ -41,21 +43,51 @@ extern "C" {
     fn cuorfelt_tick(state: *mut u8, state_length: usize, mask: u16, supplied: u8, cost: u32) -> Reply;
 }
 
-fn sheet(table: &[u8], refused: &mut bool) -> String {
+/// One tick of a history.
+struct Offer {
+    mask: u16,
+    supplied: bool,
+    cost: u32,
+}
+
+fn offer(line: &str) -> Option<Offer> {
+    let words: Vec<&str> = line.split_whitespace().collect();
+    let [mask, supplied @ ("0" | "1"), cost] = words[..] else {
+        return None;
+    };
+    Some(Offer {
+        mask: mask.parse().ok()?,
+        supplied: supplied == "1",
+        cost: cost.parse().ok()?,
+    })
+}
+
+/// The ticks of a history, whose first line is the table in hex.
+fn offers(table: &[u8], history: &str) -> Result<Vec<Offer>, String> {
+    let hex: String = table.iter().map(|byte| format!("{byte:02x}")).collect();
+    let mut lines = history.lines().zip(1..);
+    if lines.next().map_or("", |(line, _)| line) != hex {
+        return Err("line 1: recorded for another table".to_string());
+    }
+    let said = lines.filter(|(line, _)| !line.is_empty() && !line.starts_with('#'));
+    said.map(|(line, number)| offer(line).ok_or(format!("line {number}: not a tick")))
+        .collect()
+}
+
+/// The sheet as text, and whether the table is accepted.
+fn sheet(table: &[u8]) -> (String, bool) {
     let mut row = [0; PLACES];
     let found = unsafe { cuorfelt_analyse(table.as_ptr(), table.len(), row.as_mut_ptr(), row.len()) };
     if found.number != 0 {
-        *refused = true;
-        return format!("refused {} {}\n", found.number, found.index);
+        return (format!("refused {} {}\n", found.number, found.index), false);
     }
-    let bounds = row.iter().take(table[1].into()).enumerate();
-    let lines = bounds.map(|(place, bound)| format!("{} {bound}\n", place + 1));
-    format!("window {}\n", found.window) + &lines.collect::<String>()
+    let bounds = row.iter().take(table[1].into()).zip(1..);
+    let lines = bounds.map(|(bound, index)| format!("{index} {bound}\n"));
+    (format!("window {}\n", found.window) + &lines.collect::<String>(), true)
 }
 
-fn reply_text(tick: usize, reply: Reply, refused: &mut bool) -> String {
+fn reply_text(tick: usize, reply: &Reply) -> String {
     if reply.number != 0 {
-        *refused = true;
         return format!("{tick} refused {} {}\n", reply.number, reply.index);
     }
     let answer = ["refused", "nosupply", "idle", "ran", "finished"][usize::from(reply.answer)];
@@ -65,42 +97,48 @@ fn reply_text(tick: usize, reply: Reply, refused: &mut bool) -> String {
     )
 }
 
-/// Mask, supplied and cost of a line, if it is a tick's.
-fn offer(line: &str) -> Option<(u16, u8, u32)> {
-    let mut words = line.split_whitespace();
-    let mask = words.next()?.parse().ok()?;
-    let supplied = words.next()?.parse().ok()?;
-    Some((mask, supplied, words.next()?.parse().ok()?))
-}
-
-fn replies(table: &[u8], history: &str, refused: &mut bool) -> String {
+/// The replies as text, and whether nothing was refused.
+fn replies(table: &[u8], offers: &[Offer]) -> (String, bool) {
     let mut state = [0; STATE_LENGTH];
     let why = unsafe { cuorfelt_start(table.as_ptr(), table.len(), state.as_mut_ptr(), state.len()) };
     if why.number != 0 {
-        *refused = true;
-        return format!("start refused {} {}\n", why.number, why.index);
+        return (format!("start refused {} {}\n", why.number, why.index), false);
     }
-    let mut text = "start accepted\n".to_string();
-    // The first line is the table in hex.
-    for (tick, (mask, supplied, cost)) in history.lines().skip(1).filter_map(offer).enumerate() {
-        let reply = unsafe { cuorfelt_tick(state.as_mut_ptr(), state.len(), mask, supplied, cost) };
-        text += &reply_text(tick, reply, refused);
+    let (mut text, mut taken) = ("start accepted\n".to_string(), true);
+    for (tick, offer) in offers.iter().enumerate() {
+        let supplied = offer.supplied.into();
+        let reply = unsafe { cuorfelt_tick(state.as_mut_ptr(), state.len(), offer.mask, supplied, offer.cost) };
+        text += &reply_text(tick, &reply);
+        taken &= reply.number == 0;
     }
-    text
+    (text, taken)
+}
+
+/// Whether nothing was refused.
+fn run(table: &str, history: &str) -> Result<bool, String> {
+    let unread = |name: &str, error| format!("{name}: {error}");
+    let bytes = std::fs::read(table).map_err(|error| unread(table, error))?;
+    let text = std::fs::read_to_string(history).map_err(|error| unread(history, error))?;
+    let offers = offers(&bytes, &text)?;
+    let (sheet, accepted) = sheet(&bytes);
+    let (replies, taken) = replies(&bytes, &offers);
+    let written = std::io::stdout().write_all((sheet + &replies).as_bytes());
+    written.map_err(|error| unread("standard output", error))?;
+    Ok(accepted && taken)
 }
 
 fn main() {
     let words: Vec<String> = std::env::args().skip(1).collect();
-    let [table, history] = &words[..] else {
-        eprintln!("usage: host TABLE HISTORY");
-        std::process::exit(2);
+    let ran = match &words[..] {
+        [table, history] => run(table, history),
+        _ => Err("usage: host TABLE HISTORY".to_string()),
     };
-    let (Ok(table), Ok(history)) = (std::fs::read(table), std::fs::read_to_string(history)) else {
-        eprintln!("host: a file cannot be read");
-        std::process::exit(2);
+    let status = match ran {
+        Ok(unrefused) => i32::from(!unrefused),
+        Err(fault) => {
+            eprintln!("host: {fault}");
+            2
+        }
     };
-    let mut refused = false;
-    let text = sheet(&table, &mut refused) + &replies(&table, &history, &mut refused);
-    let written = std::io::stdout().write_all(text.as_bytes());
-    std::process::exit(if written.is_err() { 2 } else { i32::from(refused) });
+    std::process::exit(status);
 }

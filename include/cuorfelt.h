@@ -85,7 +85,8 @@ enum {
     CUORFELT_FAULTY_STATE = 29
 };
 
-/* A refusal: its number, and the callback that it is about. Number 0: nothing is refused, and the index is 0. */
+/* A refusal: its number, and the callback that it is about (for 20 the place of a bit, which may be no callback's). Number 0: nothing is
+ * refused, and the index is 0. */
 typedef struct {
     uint8_t number;
     uint8_t index;

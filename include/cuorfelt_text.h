@@ -1,4 +1,4 @@
-/* The refusals of cuorfelt.h in words for an operator. The words are those of GUIDE.md's table of refusals. */
+/* The refusals of cuorfelt.h in words for an operator, for C99 and C++. The words are those of GUIDE.md's table of refusals. */
 #ifndef CUORFELT_TEXT_H
 #define CUORFELT_TEXT_H
 
@@ -30,7 +30,7 @@ static inline cuorfelt_words cuorfelt_text(unsigned number, unsigned index)
     case CUORFELT_UNKNOWN_EDITION:
         return cuorfelt_words_of("the edition is not 1", "write 1 into byte 0; look whether the file is a table");
     case CUORFELT_WRONG_COUNT:
-        return cuorfelt_words_of("n is not 1 to 16", "join callbacks, or give some to another thread");
+        return cuorfelt_words_of("n is not 1 to 16", "declare one callback at least; beyond sixteen, join some or give them to another thread");
     case CUORFELT_WRONG_LENGTH:
         return cuorfelt_words_of("the length is not 16 + 32 n", "make byte 1 the number of records; cut what follows them");
     case CUORFELT_SPARE_NOT_ZERO:
