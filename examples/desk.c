@@ -140,7 +140,7 @@ static void print_bound(table of, int index, uint16_t bound)
     printf("%d %d # ", index, bound);
     print_name(index);
     if (next_of(of, index) == 0) {
-        printf(", the lead of ");
+        printf(", the end of ");
         print_chain(of, index);
     }
     printf("\n");
