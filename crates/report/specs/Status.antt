@@ -1,7 +1,11 @@
 -- The status with which a program that prints a sheet ends.
-use mathlib.Core.Bool.{true, false}
+use mathlib.Core.Bool.{Bool, true, false}
+use mathlib.Core.List.{List}
+use mathlib.Core.Path.{_≡_}
 use Prim.Native.Nat.{ℕ}
 use lib.Dec.{eqb}
+use Rattle.numbers.specs.Numbers.{places}
+use Rattle.sheet.specs.Sheet.{sheetOf}
 use Rattle.report.specs.declared.Printed.{Printed}
 
 -- a whole sheet, a refusal, and input or output that failed
@@ -17,3 +21,9 @@ failed = 2
 -- 0 only for a whole sheet that was all written
 unfoldable pub statusOf : Printed → ℕ
 statusOf p = elim (p .written) [ false ↦ failed | true ↦ elim (eqb (p .sheet .refusal .number) 0) [ true ↦ whole | false ↦ refused ] ]
+
+-- what the program may end with after these bytes: 2 where a read failed behind them; else the status of what it printed, which is their
+-- sheet. How much of that was written, only the system can tell.
+unfoldable pub Ends : List ℕ → Bool → ℕ → Type 0
+Ends b true r = r ≡ failed
+Ends b false r = (p : Printed) × (p .sheet ≡ sheetOf b places) × (r ≡ statusOf p)

@@ -11,7 +11,7 @@ ghost use mathlib.Core.Path.{_≡_};
 ghost use Prim.Native.Nat.{_≤_};
 ghost use Rattle.numbers.specs.Numbers.{places};
 ghost use Rattle.sheet.specs.Sheet.{sheetOf};
-ghost use Rattle.report.specs.Status.{statusOf, failed};
+ghost use Rattle.report.specs.Status.{statusOf, failed, Ends};
 
 // How a program ends: a whole sheet was printed; a refusal; or input could not be read or output not be written.
 pub const WHOLE: u8 = 0;
@@ -96,20 +96,16 @@ pub fn status(printed: Printed) -> u8
     WHOLE
 }
 
-// The program `bounds`: prints the sheet of the table on standard input and gives the status to end with, FAILED after a word on standard error.
-// No table has more than 528 bytes. An input that fills the buffer has more, and is refused by its first bytes and its length, as all of it would be.
-#[no_mangle]
-pub extern "C" fn cuorfelt_bounds() -> u8
-    ensures { λ r. ⌜ r ≤ failed ⌝ }
+// The program `bounds` once its input was read, as bytes and whether a read failed behind them: prints their sheet and gives the status to end
+// with, FAILED after a word on standard error.
+pub fn conclude(bytes: &[u8], unread: bool) -> u8
+    ensures { λ r. ⌜ Ends (now (bytes .entry)) unread r ⌝ }
 {
-    let mut buffer = [0u8; 1024];
-    let read = input::read_all(&mut buffer);
-    if read.failed {
+    if unread {
         io::write_all(STDERR_FILENO, b"bounds: standard input cannot be read\n");
         return FAILED;
     }
-    let n = read.count;
-    let printed = report(&buffer[..n]);
+    let printed = report(bytes);
     if !printed.written {
         io::write_all(
             STDERR_FILENO,
@@ -117,4 +113,16 @@ pub extern "C" fn cuorfelt_bounds() -> u8
         );
     }
     status(printed)
+}
+
+// The program `bounds` as a function: reads standard input, prints and gives the status to end with.
+// No table has more than 528 bytes. An input that fills the buffer has more, and is refused by its first bytes and its length, as all of it would be.
+#[no_mangle]
+pub extern "C" fn cuorfelt_bounds() -> u8
+    ensures { λ r. ⌜ r ≤ failed ⌝ }
+{
+    let mut buffer = [0u8; 1024];
+    let read = input::read_all(&mut buffer);
+    let n = read.count;
+    conclude(&buffer[..n], read.failed)
 }

@@ -1,13 +1,14 @@
 -- What was read lies within the buffer; the status is one of the three.
 use mathlib.Core.Path.{sym, subst}
 use mathlib.Core.Bool.{Bool, true, false}
+use mathlib.Core.List.{List}
 use Prim.Native.Nat.{ℕ, _≤_}
 use native.Mathlib.Omega.{arith}
 use lib.Dec.{eqb}
 use lib.Seq.{length-take-le}
 use borrow.Author.Needs.{needs}
 use Rattle.report.specs.declared.Printed.{Printed}
-use Rattle.report.specs.Status.{statusOf, whole, refused, failed}
+use Rattle.report.specs.Status.{statusOf, whole, refused, failed, Ends}
 use Rattle.report.proofs.cuorfelt_bounds.Statement.{statement}
 use Rattle.report.proofs.cuorfelt_bounds.Tie as tie
 
@@ -20,11 +21,16 @@ status-most p = go (p .written) (eqb (p .sheet .refusal .number) 0)
     go true false = omega arith
     go true true = omega arith
 
-slice-aggregate-report : tie.Need-slice-aggregate-report
-slice-aggregate-report c = sym (length-take-le _ _ (search needs))
+ends-most : (b : List ℕ) (u : Bool) (r : ℕ) → Ends b u r → r ≤ failed
+unfolding Ends
+ends-most b true r e = omega (arith, e)
+ends-most b false r e = subst (λ (s : ℕ). s ≤ failed) (sym (e .2)) (status-most (e .0))
 
-returns-2 : tie.Need-returns-2
-returns-2 c = subst (λ (r : ℕ). r ≤ failed) (sym (c .status .ensures)) (status-most _)
+slice-aggregate-conclude : tie.Need-slice-aggregate-conclude
+slice-aggregate-conclude c = sym (length-take-le _ _ (search needs))
+
+returns : tie.Need-returns
+returns c = ends-most _ _ _ (c .conclude .ensures)
 
 pub cuorfelt-bounds-spec : {M : Type 1} → statement M
 cuorfelt-bounds-spec =
@@ -33,12 +39,6 @@ cuorfelt-bounds-spec =
     (λ c. search needs)
     (λ c κs. search needs)
     (λ c. search needs)
+    slice-aggregate-conclude
     (λ c κs. search needs)
-    (λ c. search needs)
-    (λ c. search needs)
-    slice-aggregate-report
-    (λ c κs. search needs)
-    (λ c. search needs)
-    (λ c κs. search needs)
-    (λ c κs. search needs)
-    returns-2)
+    returns)
