@@ -83,49 +83,46 @@ fn head(period: u64, jitter: u64, distance: u64) -> Callback {
     lone(Kind::Subscription, period, jitter, distance, &[1])
 }
 
-#[test]
-fn all_short_lists_of_supply() {
+/// Compares both ways on lists 0 to `lists` - 1 of each table.
+fn compare_all(tables: impl Iterator<Item = Table>, lists: u64, history: impl Fn(u64) -> History) {
     let mut seen = Seen::default();
-    for period in 1..=5 {
-        for budget in 1..=period {
-            let table = supplied(budget, period, vec![subscription(9, &[1])]);
-            for list in 0..1 << 13 {
-                seen.note(departure(&table, &supplies(list, 13)));
-            }
+    for table in tables {
+        for list in 0..lists {
+            seen.note(departure(&table, &history(list)));
         }
     }
     assert!(seen.within > 1_000 && seen.outside > 1_000);
+}
+
+#[test]
+fn all_short_lists_of_supply() {
+    let reservations = (1..=5).flat_map(|period| (1..=period).map(move |budget| (budget, period)));
+    let tables =
+        reservations.map(|(budget, period)| supplied(budget, period, vec![subscription(9, &[1])]));
+    compare_all(tables, 1 << 13, |list| supplies(list, 13));
 }
 
 #[test]
 fn all_short_lists_of_arrivals() {
-    let mut seen = Seen::default();
-    for period in 1..=4 {
-        for (distance, jitter) in (1..=period).flat_map(|d| (0..=7).map(move |j| (d, j))) {
-            let table = full(vec![head(period, jitter, distance)]);
-            for list in 0..1 << 11 {
-                seen.note(departure(&table, &arriving(list, 11)));
-            }
-        }
-    }
-    assert!(seen.within > 1_000 && seen.outside > 1_000);
+    let paces = (1..=4).flat_map(|period| (1..=period).map(move |distance| (period, distance)));
+    let tables = paces.flat_map(|(period, distance)| {
+        (0..=7).map(move |jitter| full(vec![head(period, jitter, distance)]))
+    });
+    compare_all(tables, 1 << 11, |list| arriving(list, 11));
 }
 
 #[test]
 fn all_short_lists_of_costs() {
-    let mut seen = Seen::default();
     // Each set of 1 to 3 entries of 1 to 5, as the bits of a number.
-    for set in (1..1u64 << 5).filter(|set| set.count_ones() <= 3) {
-        let entries: Vec<u64> = (1..=5)
-            .filter(|entry| set >> (entry - 1) & 1 != 0)
-            .collect();
-        let table = full(vec![subscription(9, &entries)]);
-        for list in 0..3u64.pow(7) {
-            let costs: Vec<u64> = (0..7).map(|place| 1 + list / 3u64.pow(place) % 3).collect();
-            seen.note(departure(&table, &costing(&costs)));
-        }
-    }
-    assert!(seen.within > 1_000 && seen.outside > 1_000);
+    let sets = (1..1u64 << 5).filter(|set| set.count_ones() <= 3);
+    let tables = sets.map(|set| {
+        let entries = (1..=5).filter(|entry| set >> (entry - 1) & 1 != 0);
+        full(vec![subscription(9, &entries.collect::<Vec<u64>>())])
+    });
+    compare_all(tables, 3u64.pow(7), |list| {
+        let costs = (0..7).map(|place| 1 + list / 3u64.pow(place) % 3);
+        costing(&costs.collect::<Vec<u64>>())
+    });
 }
 
 /// Lists without a tick, and of one: the window of one tick is the shortest.
