@@ -25,7 +25,7 @@ extern "C" {
 /* The version of this header and of its library. A host is compiled anew where the first number differs; the second rises where
  * something is added, the third where neither is so. */
 #define CUORFELT_VERSION_MAJOR 1
-#define CUORFELT_VERSION_MINOR 0
+#define CUORFELT_VERSION_MINOR 1
 #define CUORFELT_VERSION_PATCH 0
 
 /* Sizes. */
@@ -49,7 +49,8 @@ enum {
 
 /* The edition, byte 0 of a table, and the kind, byte 0 of a record. */
 enum {
-    CUORFELT_EDITION_ONE = 1
+    CUORFELT_EDITION_ONE = 1,        /* timers overtake what a polling point took, as in ROS 2 up to Dashing */
+    CUORFELT_EDITION_TWO = 2         /* timers wait for a polling point as the rest do, as in later releases */
 };
 enum {
     CUORFELT_TIMER = 1,
@@ -123,17 +124,17 @@ typedef struct {
 /* The length of a state in bytes, CUORFELT_STATE_LENGTH. */
 size_t cuorfelt_state_length(void);
 
-/* Reads a table and returns its refusal, 1 to 14, or number 0 where it is accepted. */
+/* Reads a table and returns its refusal, or number 0 where it is accepted. */
 cuorfelt_refusal cuorfelt_read(const uint8_t *table, size_t length);
 
 /* Analyses a table of n callbacks: returns the window and writes the bounds of callbacks 1 to n to row[0] to row[n - 1].
- * Places of the row from n on are not touched. A refusal, 17 (fewer than 16 places), 1 to 14, 15 or 16, touches no place of the row
- * and returns window 0. */
+ * Places of the row from n on are not touched. A refusal, 17 (fewer than 16 places), any that cuorfelt_read gives, 15 or 16, touches no
+ * place of the row and returns window 0. */
 cuorfelt_sheet cuorfelt_analyse(const uint8_t *table, size_t length, uint16_t *row, size_t places);
 
 /* Starts a machine: writes the fresh state of the table to the lent bytes, all of them.
- * Refusals: 29 where state_length is not cuorfelt_state_length(), then 1 to 14. A refusal leaves the lent bytes as they were: if they
- * held a state, they still do, and ticks go on with it. */
+ * Refusals: 29 where state_length is not cuorfelt_state_length(), then any that cuorfelt_read gives. A refusal leaves the lent bytes as
+ * they were: if they held a state, they still do, and ticks go on with it. */
 cuorfelt_refusal cuorfelt_start(const uint8_t *table, size_t length, uint8_t *state, size_t state_length);
 
 /* Takes one tick on the state in the lent bytes: arrivals in the mask (bit i - 1 for callback i, heads only), whether the tick is supplied

@@ -166,6 +166,7 @@ fn longest() -> Table {
         distance: LARGEST,
     };
     Table {
+        edition: 1,
         budget: 1,
         period: 1,
         horizon: 0,
@@ -219,6 +220,7 @@ fn chain() -> Table {
         distance: if next == 15 { 40 } else { 0 },
     };
     Table {
+        edition: 1,
         budget: 1,
         period: 1,
         horizon: 0,

@@ -40,6 +40,8 @@ pub fn judged(table: &Table, bounds: &[u64], history: &History) -> Judgement {
 pub struct Totals {
     pub tables: u64,
     pub accepted: u64,
+    /// The accepted tables of edition 2.
+    pub second: u64,
     pub longest_window: u64,
     pub histories: u64,
     pub ticks: u64,
@@ -80,6 +82,7 @@ fn check_table(seed: u64, most_ticks: u64, totals: &mut Totals) {
         return;
     };
     totals.accepted += 1;
+    totals.second += u64::from(sheet.table.edition == 2);
     totals.longest_window = totals.longest_window.max(sheet.window);
     let (table, window) = (&sheet.table, sheet.window);
     let mut responses = vec![0; table.count()];
@@ -140,6 +143,7 @@ pub fn report(totals: &Totals) -> String {
     let mut lines = vec![
         format!("tables {}", totals.tables),
         format!("accepted {}", totals.accepted),
+        format!("of these in edition 2 {}", totals.second),
         format!("longest window {}", totals.longest_window),
         format!("histories {}", totals.histories),
         format!("ticks {}", totals.ticks),

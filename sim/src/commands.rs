@@ -87,7 +87,7 @@ pub fn run(words: &[&str]) -> Result<Ending, Failure> {
         ["within"] => judgement(&text_input()?),
         ["bytes"] => Ok(Ending::new(hex_row(&text_input()?)?, true)),
         ["readings"] => Ok(read_frames(&input()?)),
-        ["histories"] => Ok(played_frame(&input()?)),
+        ["histories"] => Ok(played_histories(&input()?)),
         ["generate", ..] => Ok(Ending::new(generated(words)?, true)),
         ["check", seed, count, rest @ ..] => checked(seed, count, rest),
         [] => Err(Failure::Words("no command".to_string())),
@@ -217,18 +217,23 @@ fn read_frames(bytes: &[u8]) -> Ending {
     Ending::new(text, in_order).and(cut_readings(bytes))
 }
 
-fn played_frame(bytes: &[u8]) -> Ending {
+fn played_histories(bytes: &[u8]) -> Ending {
     Ending::of_lines(replies(bytes)).and(cut_replies(bytes))
 }
 
 fn generated(words: &[&str]) -> Result<Vec<u8>, Failure> {
     match words {
         ["generate", "readings"] => Ok(edges().iter().flat_map(|bytes| framed(bytes)).collect()),
-        ["generate", "histories"] => Ok(packed_history(&encode(&base()), &covering())),
+        ["generate", "histories"] => Ok([covered(1), covered(2)].concat()),
         ["generate", "tables", seed, count, rest @ ..] => Ok(tables(seed, count, rest)?.into()),
         ["generate", "history", seed, rest @ ..] => Ok(history(seed, rest)?.into()),
         _ => Err(wrong(words)),
     }
+}
+
+/// The history of this edition for `sim histories`.
+fn covered(edition: u8) -> Vec<u8> {
+    packed_history(&encode(&base(edition)), &covering(edition))
 }
 
 fn tables(seed: &str, count: &str, rest: &[&str]) -> Result<String, Failure> {

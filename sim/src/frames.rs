@@ -46,24 +46,56 @@ pub fn cut_readings(input: &[u8]) -> Option<String> {
     (whole < input.len()).then(|| format!("frame {}: cut short", lengths.len() + 1))
 }
 
-/// The frame or the tick of `replies` that is cut short, if one is. Ticks count from 0.
-pub fn cut_replies(input: &[u8]) -> Option<String> {
-    let Some((_, rest)) = frame(input) else {
-        return Some("frame 1: cut short".to_string());
-    };
-    let ticks = rest.chunks_exact(TICK_BYTES);
-    (!ticks.remainder().is_empty()).then(|| format!("tick {}: cut short", ticks.len()))
-}
-
-/// A history: a frame with the table, then the ticks.
+/// A history: a frame with the table, the number of ticks in four bytes, then the ticks.
 pub fn packed_history(table: &[u8], ticks: &[(Tick, u8)]) -> Vec<u8> {
+    let count = u32::try_from(ticks.len()).expect("a short history");
     let mut bytes = framed(table);
+    bytes.extend(count.to_le_bytes());
     for (tick, supplied) in ticks {
         bytes.extend(tick.mask.to_le_bytes());
         bytes.push(*supplied);
         bytes.extend((tick.cost as u32).to_le_bytes());
     }
     bytes
+}
+
+/// A history in the input: its table, and its ticks as far as they are there.
+struct Packed<'a> {
+    table: &'a [u8],
+    ticks: &'a [u8],
+    whole: bool,
+}
+
+/// The histories of the input, one behind the other; the last may lack ticks.
+fn histories(mut input: &[u8]) -> impl Iterator<Item = Packed<'_>> {
+    std::iter::from_fn(move || {
+        let (table, rest) = frame(input)?;
+        let (count, rest) = rest.split_first_chunk::<4>()?;
+        let length = u32::from_le_bytes(*count) as usize * TICK_BYTES;
+        let whole = length <= rest.len();
+        let (ticks, rest) = rest.split_at(length.min(rest.len()));
+        input = rest;
+        Some(Packed {
+            table,
+            ticks,
+            whole,
+        })
+    })
+}
+
+/// The history or the tick of `replies` that is cut short, if one is. Histories count from 1, ticks
+/// from 0.
+pub fn cut_replies(input: &[u8]) -> Option<String> {
+    let (mut count, mut read) = (0, 0);
+    for history in histories(input) {
+        count += 1;
+        read += 2 + history.table.len() + 4 + history.ticks.len();
+        if !history.whole {
+            let tick = history.ticks.len() / TICK_BYTES;
+            return Some(format!("history {count}, tick {tick}: cut short"));
+        }
+    }
+    (read < input.len()).then(|| format!("history {}: cut short", count + 1))
 }
 
 /// The answers in the order of their numbers, 1 to 4.
@@ -78,17 +110,18 @@ fn numbered(line: &str) -> String {
     line.split(' ').map(field).collect::<Vec<_>>().join(" ")
 }
 
-/// The refusal of a start, if any, then a line for each tick of such a
-/// history, the answer by its number.
+/// For each such history the refusal of its start, if any, then a line for each tick, the answer by
+/// its number.
 pub fn replies(input: &[u8]) -> String {
-    let Some((table, rest)) = frame(input) else {
-        return String::new();
-    };
-    let started = start(table);
+    histories(input).map(|history| replied(&history)).collect()
+}
+
+fn replied(history: &Packed) -> String {
+    let started = start(history.table);
     let refusal = started.refusal.as_ref();
     let mut text = refusal.map_or(String::new(), |refusal| refusal_text(refusal) + "\n");
     let mut state = started.state;
-    for (time, bytes) in rest.chunks_exact(TICK_BYTES).enumerate() {
+    for (time, bytes) in history.ticks.chunks_exact(TICK_BYTES).enumerate() {
         let step = state.tick(Tick {
             mask: u16::from_le_bytes([bytes[0], bytes[1]]),
             supplied: bytes[2] != 0,

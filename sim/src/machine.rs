@@ -1,5 +1,5 @@
 //! The machine: one tick at a time (refusals 18 to 21 and 29). Steps and sections in quotes are
-//! document 01's.
+//! document 01's, U1 is a request of document 02.
 
 use crate::table::{read, refusal, Kind, Refusal, Table, LARGEST, MOST_CALLBACKS};
 
@@ -10,7 +10,7 @@ pub const MOST_WAITING: u64 = 255;
 /// here.
 #[derive(Clone, Debug, PartialEq, Eq)]
 pub struct State {
-    /// The bytes of the table.
+    /// The bytes of the table. The edition is among them and nowhere else.
     pub table: Vec<u8>,
     pub waiting: [u64; 16],
     pub finished: [u64; 16],
@@ -92,6 +92,16 @@ pub fn bit(index: usize) -> u16 {
         1 << (index - 1)
     } else {
         0
+    }
+}
+
+/// U1: whether polling points gather the callbacks of this kind. In edition 1 they leave out the
+/// timers, which are chosen ahead of the cache; in edition 2 they take all. The machine asks for
+/// the edition here alone.
+pub fn gathers(edition: u8, kind: Kind) -> bool {
+    match edition {
+        1 => kind != Kind::Timer,
+        _ => true,
     }
 }
 
@@ -189,21 +199,21 @@ impl State {
         (1..=table.count()).any(|i| self.waiting(i) > MOST_WAITING || self.finished(i) > self.ticks)
     }
 
-    /// Refusal 29: the cache holds a timer, or a callback of which no instance waits.
+    /// Refusal 29: the cache holds a callback that is not gathered, or of which no instance waits.
     fn cache_fault(&self, table: &Table) -> bool {
         let mut cached = (1..=table.count()).filter(|&i| self.cached(i));
-        cached.any(|i| self.waiting(i) == 0 || table.callback(i).kind == Kind::Timer)
+        cached.any(|i| self.waiting(i) == 0 || !gathers(table.edition, table.callback(i).kind))
     }
 
-    /// Refusal 29: no instance of the running callback waits, it is a non-timer outside the cache,
+    /// Refusal 29: no instance of the running callback waits, it is gathered but outside the cache,
     /// or the units are out of range: 1 to 60,000 with a running callback, only 0 without.
     fn running_fault(&self, table: &Table) -> bool {
         if self.running == 0 {
             return self.units != 0;
         }
-        let timer = table.callback(self.running).kind == Kind::Timer;
+        let gathered = gathers(table.edition, table.callback(self.running).kind);
         self.waiting(self.running) == 0
-            || (!timer && !self.cached(self.running))
+            || (gathered && !self.cached(self.running))
             || !(1..=LARGEST).contains(&self.units)
     }
 
@@ -252,19 +262,20 @@ impl State {
         }
     }
 
-    /// Step 3, with nothing running: by priority a waiting timer, or else a cached callback. With
-    /// neither this is a polling point: the waiting non-timers, possibly none, become the cache,
-    /// and the choice is among them. The chosen instance starts, with the offered cost as its
-    /// units.
+    /// Step 3, with nothing running: by priority a waiting callback that is not gathered, or else a
+    /// cached one. With neither this is a polling point: the waiting callbacks that are gathered,
+    /// possibly none, become the cache, and the choice is among them. The chosen instance starts,
+    /// with the offered cost as its units.
     fn choose(&mut self, table: &Table, cost: u64, reply: &mut Reply) {
         let waits = (1..=table.count()).filter(|&i| self.waiting(i) > 0);
-        let waiting = waits.fold(0, |mask, i| mask | bit(i));
-        let timers = kind_mask(table, Kind::Timer);
-        let mut chosen = first(table, waiting & timers);
+        let (gathered, others): (Vec<usize>, Vec<usize>) =
+            waits.partition(|&i| gathers(table.edition, table.callback(i).kind));
+        let mask = |of: &[usize]| of.iter().fold(0, |mask, &i| mask | bit(i));
+        let mut chosen = first(table, mask(&others));
         if chosen == 0 && self.cache != 0 {
             chosen = first(table, self.cache);
         } else if chosen == 0 {
-            self.cache = waiting & !timers;
+            self.cache = mask(&gathered);
             reply.polled = true;
             reply.gathered = self.cache.count_ones();
             chosen = first(table, self.cache);

@@ -38,6 +38,7 @@ pub fn svg_part(table: &Table, history: &History, names: &[&str], shown: Range<u
     drawing.open();
     drawing.unsupplied(history);
     drawing.axis();
+    drawing.edition(table);
     drawing.pauses(history);
     for (time, reply) in drawing.replies(history) {
         drawing.reply(time, reply, table);
@@ -195,6 +196,14 @@ impl Drawing {
             if time % every == 0 {
                 self.words((x, y + 16), "middle", &time.to_string());
             }
+        }
+    }
+
+    /// Beside the numbers of the polls, where these count timers.
+    fn edition(&mut self, table: &Table) {
+        if table.edition == 2 {
+            let at = (LEFT - 10, TOP - 30);
+            self.words(at, "end", "edition 2: polls take timers");
         }
     }
 

@@ -29,6 +29,12 @@ impl Random {
         self.range(0, 99) < percent
     }
 
+    /// True in half of all cases. It takes no number, so that all draws after it are what they
+    /// would be without it. (the top bit of the next number, on which no small range depends)
+    pub fn coin(&self) -> bool {
+        Random(self.0).bits() >> 63 == 1
+    }
+
     pub fn pick<'a, T>(&mut self, items: &'a [T]) -> &'a T {
         &items[self.range(0, items.len() as u64 - 1) as usize]
     }

@@ -1,5 +1,5 @@
 //! The callback table: its values, its bytes and its reader (refusals 1 to 14). Sections in quotes
-//! are document 01's.
+//! are document 01's, U1 is a request of document 02.
 
 pub const MOST_CALLBACKS: usize = 16;
 pub const LARGEST: u64 = 60_000;
@@ -38,6 +38,7 @@ pub struct Callback {
 /// Header and records; `budget` is Q, `period` P, `horizon` H as written.
 #[derive(Clone, Debug, PartialEq, Eq)]
 pub struct Table {
+    pub edition: u8,
     pub budget: u64,
     pub period: u64,
     pub horizon: u64,
@@ -141,6 +142,7 @@ pub fn read(bytes: &[u8]) -> Result<Table, Refusal> {
         callbacks.push(read_record(record, place + 1, usize::from(bytes[1]))?);
     }
     let table = Table {
+        edition: bytes[0],
         budget: word(bytes, 2),
         period: word(bytes, 4),
         horizon: word(bytes, 6),
@@ -151,11 +153,11 @@ pub fn read(bytes: &[u8]) -> Result<Table, Refusal> {
     Ok(table)
 }
 
-/// Refusals 1 to 7, with index 0. 'The callback table', header: edition (1) at byte 0, n (1 to 16)
-/// at 1, Q at 2, P at 4, H (0 is in range) at 6, spare bytes from 8 to 15.
+/// Refusals 1 to 7, with index 0. 'The callback table', header: edition (1, since U1 or 2) at byte
+/// 0, n (1 to 16) at 1, Q at 2, P at 4, H (0 is in range) at 6, spare bytes from 8 to 15.
 fn check_header(bytes: &[u8]) -> Result<(), Refusal> {
     refuse_if(bytes.len() < HEADER_BYTES, 1, 0)?;
-    refuse_if(bytes[0] != 1, 2, 0)?;
+    refuse_if(![1, 2].contains(&bytes[0]), 2, 0)?;
     let count = usize::from(bytes[1]);
     refuse_if(!(1..=MOST_CALLBACKS).contains(&count), 3, 0)?;
     refuse_if(bytes.len() != HEADER_BYTES + RECORD_BYTES * count, 4, 0)?;
@@ -242,10 +244,10 @@ fn check_arrivals(table: &Table) -> Result<(), Refusal> {
     Ok(())
 }
 
-/// The bytes of a table's values, edition 1, whether or not the reader would take them. A value
-/// too large for its field keeps its low bits; entries beyond the eighth have no place.
+/// The bytes of a table's values, whether or not the reader would take them. A value too large for
+/// its field keeps its low bits; entries beyond the eighth have no place.
 pub fn encode(table: &Table) -> Vec<u8> {
-    let mut bytes = vec![1, table.count() as u8];
+    let mut bytes = vec![table.edition, table.count() as u8];
     for value in [table.budget, table.period, table.horizon] {
         bytes.extend((value as u16).to_le_bytes());
     }

@@ -35,42 +35,70 @@ fn plain(script: &Script) -> History {
     play(&script.table, &ticks)
 }
 
-/// What seeds gave before the trackers, as digests.
+/// What seeds gave before the trackers and before edition 2, as digests of what they draw for
+/// tables of edition 1. The tables that a faulty history writes, and those of `generate tables`,
+/// stay but for the edition; without that they are compared.
 #[test]
 fn seeds_give_what_they_gave() {
-    let drawn = |sort: &'static str| {
-        digest((1..=60).map(move |seed: u64| {
-            program(
-                &["generate", "history", &seed.to_string(), sort, "400"],
-                b"",
-            )
-        }))
+    let drawn = |sort: &str| {
+        let texts = histories_of_seeds(sort, 1);
+        digest(texts.iter().map(|text| without_editions(text)))
     };
     assert_eq!(drawn("within"), WITHIN);
     assert_eq!(drawn("outside"), OUTSIDE);
     assert_eq!(drawn("faulty"), FAULTY);
     let tables = program(&["generate", "tables", "1", "300"], b"");
-    assert_eq!(digest([tables]), TABLES);
-    assert_eq!(digest([program(&["check", "1", "60"], b"")]), CHECK);
+    let cut = tables
+        .lines()
+        .map(|line| format!("{}\n", line.get(2..).unwrap_or("")));
+    assert_eq!(digest(cut), TABLES);
+    let checks = (1..=60).map(|seed: u64| program(&["check", &seed.to_string(), "1"], b""));
+    let first = checks.filter(|text| text.contains(NO_SECOND));
+    assert_eq!(digest(first.map(|text| text.replace(NO_SECOND, ""))), CHECK);
 }
 
-const WITHIN: u64 = 0xacb8_c0f9_49cd_3913;
-const OUTSIDE: u64 = 0x25c9_bbab_649c_b647;
-const FAULTY: u64 = 0x0f75_9327_8100_f09f;
-const TABLES: u64 = 0x4843_d329_0dcc_8905;
-const CHECK: u64 = 0xd494_03b1_6623_4f62;
+const WITHIN: u64 = 0xb721_1176_684b_511c;
+const OUTSIDE: u64 = 0x61c7_7bf1_4fe7_3f56;
+const FAULTY: u64 = 0xa3ee_14c3_f486_11c0;
+const TABLES: u64 = 0x91da_4a01_f021_ffd1;
+const CHECK: u64 = 0xd125_d8e8_e264_6e0f;
+const NO_SECOND: &str = "of these in edition 2 0\n";
+
+/// What seeds 1 to 60 give of this sort, where the drawn table is of this edition.
+fn histories_of_seeds(sort: &str, edition: u8) -> Vec<String> {
+    let texts = (1..=60).map(|seed: u64| {
+        let words = ["generate", "history", &seed.to_string(), sort, "400"];
+        program(&words, b"")
+    });
+    texts
+        .filter(|text| text.starts_with(&hex(&[edition])))
+        .collect()
+}
+
+/// The text without the editions of the tables that it writes.
+fn without_editions(text: &str) -> String {
+    let cut = |line: &str| match line.strip_prefix("set table ") {
+        Some(bytes) => format!("set table {}\n", bytes.get(2..).unwrap_or("")),
+        None => line.to_string() + "\n",
+    };
+    text.lines().map(cut).collect()
+}
 
 #[test]
 fn histories_of_a_given_table() {
-    let bytes = encode(&desk());
-    for (seed, length) in [
-        ("1", 300),
-        ("2", 300),
-        ("3", 20),
-        ("4", 3),
-        ("5", 0),
-        ("6", 400),
+    for (edition, seed, length) in [
+        (1, "1", 300),
+        (1, "2", 300),
+        (1, "3", 20),
+        (1, "4", 3),
+        (1, "5", 0),
+        (1, "6", 400),
+        (2, "1", 300),
+        (2, "2", 20),
+        (2, "3", 0),
+        (2, "4", 400),
     ] {
+        let bytes = encode(&in_edition(edition, &desk()));
         let ticks = length.to_string();
         for sort in ["within", "worst"] {
             let ended = run(&["generate", "history", seed, sort, &ticks, "-"], &bytes);

@@ -91,6 +91,7 @@ fn each_condition_of_the_curves() {
 fn generated_histories_are_within_the_curves_and_in_time() {
     let totals = sim::check::check(1_000, 120, 300);
     assert!(totals.accepted > 50 && totals.reached > 20);
+    assert!(totals.second > 25 && totals.accepted - totals.second > 25);
     assert!(totals.outside.is_empty(), "{:?}", totals.outside);
     assert!(totals.violations.is_empty(), "{:?}", totals.violations);
 }
@@ -153,13 +154,15 @@ fn early_start_is_seen() {
     assert_eq!(conclusions(&chain(), &[6, 6, 6], &history), Ok(()));
 }
 
-/// Histories outside the curves reach each of the refusals 19 to 21.
+/// Histories outside the curves reach each of the refusals 19 to 21, in both editions. A follower
+/// fills up in edition 1 alone, behind a timer that beats without end: a poll that takes its head
+/// takes at most one instance, and the next poll takes the follower's.
 #[test]
 fn outside_histories_are_refused() {
     let mut random = Random::new(9);
-    let mut seen = [false; 30];
-    let mut followers_full = false;
-    for _ in 0..200 {
+    let mut seen = [[false; 30]; 3];
+    let mut followers_full = [false; 3];
+    for _ in 0..2_000 {
         let table = table(&mut random, Shape::Small);
         let ticks = outside(&mut random, &table, 400);
         for refusal in played(&table, &ticks)
@@ -167,12 +170,16 @@ fn outside_histories_are_refused() {
             .iter()
             .filter_map(|r| r.outcome.err())
         {
-            seen[usize::from(refusal.number)] = true;
+            let edition = usize::from(table.edition);
+            seen[edition][usize::from(refusal.number)] = true;
             let index = usize::from(refusal.index);
-            followers_full |= refusal.number == 21 && !table.is_head(index);
+            followers_full[edition] |= refusal.number == 21 && !table.is_head(index);
         }
     }
-    assert!(seen[19] && seen[20] && seen[21] && followers_full);
+    for edition in [1, 2] {
+        assert!([19, 20, 21].iter().all(|&number| seen[edition][number]));
+    }
+    assert_eq!(followers_full, [false, true, false]);
 }
 
 /// With one cost entry the bound of a lone callback is exact: the greedy

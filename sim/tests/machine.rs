@@ -38,7 +38,7 @@ fn refused(state: &State, tick: Tick) -> Option<Refusal> {
 #[test]
 fn refused_start() {
     let mut bytes = encode(&chain());
-    bytes[0] = 2;
+    bytes[0] = 3;
     let begun = start(&bytes);
     assert_eq!(begun.refusal, Some(refusal(2, 0)));
     assert!(begun.state.table.is_empty() && begun.state.ticks == 0);
@@ -94,7 +94,8 @@ fn chain_runs_through() {
 }
 
 /// Document 01, 'The callback table', priority: the kinds in the order of their
-/// numbers, callbacks of one kind in the order of their indices.
+/// numbers, callbacks of one kind in the order of their indices. U1: in edition
+/// 2 one poll takes all five, in edition 1 the timers go ahead of it.
 #[test]
 fn priority() {
     let kinds = [
@@ -105,16 +106,21 @@ fn priority() {
         Kind::Timer,
     ];
     let table = full(kinds.map(|kind| lone(kind, 9, 0, 9, &[1])).to_vec());
-    let mut state = fresh(&table);
-    let mut order = Vec::new();
-    for mask in [31, 0, 0, 0, 0] {
-        let step = state.tick(tick(mask, 1));
-        state = step.state;
-        if let Ok(Finished { callback, .. }) = step.reply.outcome {
-            order.push(callback);
+    for (edition, gathered) in [(1, [0, 0, 3, 0, 0]), (2, [5, 0, 0, 0, 0])] {
+        let mut state = fresh(&in_edition(edition, &table));
+        let mut order = Vec::new();
+        let mut polls = Vec::new();
+        for mask in [31, 0, 0, 0, 0] {
+            let step = state.tick(tick(mask, 1));
+            state = step.state;
+            polls.push(step.reply.gathered);
+            if let Ok(Finished { callback, .. }) = step.reply.outcome {
+                order.push(callback);
+            }
         }
+        assert_eq!(order, [3, 5, 2, 4, 1]);
+        assert_eq!(polls, gathered);
     }
-    assert_eq!(order, [3, 5, 2, 4, 1]);
 }
 
 /// A callback with more waiting leaves the cache and comes back at a poll;
@@ -185,6 +191,65 @@ fn refusal_29() {
     assert_eq!(faulted(|state| state.units = 2), None);
 }
 
+/// Timers 1 and 2 and subscription 3, all waiting, with this cache and this one running.
+fn timers_at(edition: u8, cache: u16, running: usize) -> State {
+    let callbacks = vec![timer(9, &[1]), timer(9, &[1]), subscription(9, &[1])];
+    let mut state = fresh(&in_edition(edition, &full(callbacks)));
+    state.waiting[..3].copy_from_slice(&[2, 1, 1]);
+    (state.cache, state.running) = (cache, running);
+    state.units = if running == 0 { 0 } else { 2 };
+    state
+}
+
+/// Refusal 29 as U1 leaves it: a cached timer is a fault in edition 1 alone, a running timer
+/// outside the cache in edition 2 alone. A running subscription is cached in both.
+#[test]
+fn refusal_29_by_edition() {
+    let (good, bad) = (None, Some(refusal(29, 0)));
+    for (cache, running, first, second) in [
+        (0, 0, good, good),
+        (1, 0, bad, good),
+        (2, 0, bad, good),
+        (7, 0, bad, good),
+        (0, 1, good, bad),
+        (4, 1, good, bad),
+        (1, 1, bad, good),
+        (7, 2, bad, good),
+        (2, 1, bad, bad),
+        (5, 2, bad, bad),
+        (4, 3, good, good),
+        (5, 3, bad, good),
+        (0, 3, bad, bad),
+        (3, 3, bad, bad),
+    ] {
+        for (edition, outcome) in [(1, first), (2, second)] {
+            let state = timers_at(edition, cache, running);
+            for tick in [tick(0, 1), unsupplied(1, 1)] {
+                let seen = refused(&state, tick);
+                assert_eq!(seen, outcome, "edition {edition} {cache} {running}");
+            }
+        }
+    }
+    for (cache, running) in [(2, 0), (2, 2), (3, 1)] {
+        let mut state = timers_at(2, cache, running);
+        state.waiting[1] = 0;
+        assert_eq!(refused(&state, tick(0, 1)), bad);
+    }
+}
+
+/// U1: the state has its edition in its table. One that is right in both editions goes on as the
+/// edition written there says.
+#[test]
+fn state_keeps_its_edition() {
+    for (edition, chosen) in [(1, 1), (2, 3)] {
+        let mut state = timers_at(3 - edition, 4, 0);
+        state.table[0] = edition;
+        let step = state.clone().tick(tick(0, 1));
+        assert_eq!(step.reply.outcome, Ok(finished(chosen, 1)));
+        assert_eq!(step.state.table, state.table);
+    }
+}
+
 #[test]
 fn refusals_18_to_20_in_order() {
     let mut state = fresh(&chain());
@@ -207,17 +272,19 @@ fn refusals_18_to_20_in_order() {
 #[test]
 fn refusal_21_for_heads() {
     let table = full(vec![subscription(9, &[1]), timer(9, &[1])]);
-    let mut state = fresh(&table);
-    state.waiting[..2].copy_from_slice(&[255, 254]);
-    assert_eq!(refused(&state, tick(2, 1)), None);
-    assert_eq!(refused(&state, tick(3, 1)), Some(refusal(21, 1)));
-    assert_eq!(refused(&state, unsupplied(1, 1)), Some(refusal(21, 1)));
-    state.waiting[1] = 255;
-    assert_eq!(refused(&state, tick(2, 1)), Some(refusal(21, 2)));
-    state.running = 2;
-    state.units = 1;
-    assert_eq!(refused(&state, tick(2, 1)), Some(refusal(21, 2)));
-    assert_eq!(refused(&state, tick(0, 1)), None);
+    for (edition, cache) in [(1, 0), (2, 2)] {
+        let mut state = fresh(&in_edition(edition, &table));
+        state.waiting[..2].copy_from_slice(&[255, 254]);
+        assert_eq!(refused(&state, tick(2, 1)), None);
+        assert_eq!(refused(&state, tick(3, 1)), Some(refusal(21, 1)));
+        assert_eq!(refused(&state, unsupplied(1, 1)), Some(refusal(21, 1)));
+        state.waiting[1] = 255;
+        assert_eq!(refused(&state, tick(2, 1)), Some(refusal(21, 2)));
+        (state.cache, state.running) = (cache, 2);
+        state.units = 1;
+        assert_eq!(refused(&state, tick(2, 1)), Some(refusal(21, 2)));
+        assert_eq!(refused(&state, tick(0, 1)), None);
+    }
 }
 
 /// Refusal 21 of a follower with 255 waiting: only in a tick that would finish
@@ -230,18 +297,20 @@ fn refusal_21_for_followers() {
         timer(9, &[1]),
     ]);
     table.callbacks[1].next = 1;
-    let mut state = fresh(&table);
-    state.waiting[0] = 255;
-    assert_eq!(refused(&state, tick(2, 1)), Some(refusal(21, 1)));
-    assert_eq!(refused(&state, tick(2, 2)), None);
-    assert_eq!(refused(&state, unsupplied(2, 1)), None);
-    state.waiting[2] = 255;
-    assert_eq!(refused(&state, tick(6, 1)), Some(refusal(21, 1)));
-    assert_eq!(refused(&state, tick(6, 2)), Some(refusal(21, 3)));
-    state.waiting[0] = 254;
-    state.waiting[2] = 254;
-    assert_eq!(refused(&state, tick(6, 1)), None);
-    assert_eq!(state.tick(tick(6, 1)).state.waiting[..3], [255, 0, 255]);
+    for edition in [1, 2] {
+        let mut state = fresh(&in_edition(edition, &table));
+        state.waiting[0] = 255;
+        assert_eq!(refused(&state, tick(2, 1)), Some(refusal(21, 1)));
+        assert_eq!(refused(&state, tick(2, 2)), None);
+        assert_eq!(refused(&state, unsupplied(2, 1)), None);
+        state.waiting[2] = 255;
+        assert_eq!(refused(&state, tick(6, 1)), Some(refusal(21, 1)));
+        assert_eq!(refused(&state, tick(6, 2)), Some(refusal(21, 3)));
+        state.waiting[0] = 254;
+        state.waiting[2] = 254;
+        assert_eq!(refused(&state, tick(6, 1)), None);
+        assert_eq!(state.tick(tick(6, 1)).state.waiting[..3], [255, 0, 255]);
+    }
 }
 
 #[test]

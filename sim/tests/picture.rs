@@ -74,19 +74,56 @@ fn whole_range_is_the_whole_picture() {
     assert_eq!(whole, part);
 }
 
-/// What pictures were before they had parts, as a digest.
+/// What pictures were before they had parts and before edition 2, as a digest of those in edition 1.
 #[test]
 fn whole_pictures_are_what_they_were() {
-    let pictures = (1..=60).map(|seed: u64| {
+    let histories = (1..=60).map(|seed: u64| {
         let sort = ["within", "outside"][seed as usize % 2];
         let ticks = [5, 60, 100, 400][seed as usize % 4].to_string();
         let words = ["generate", "history", &seed.to_string(), sort, &ticks];
-        program(&["svg", "a", "b"], program(&words, b"").as_bytes())
+        program(&words, b"")
     });
+    let first = histories.filter(|text| text.starts_with("01"));
+    let pictures = first.map(|text| program(&["svg", "a", "b"], text.as_bytes()));
     assert_eq!(digest(pictures), PICTURES);
 }
 
-const PICTURES: u64 = 0x7553_23b6_8fe9_73a4;
+const PICTURES: u64 = 0xb967_39c2_7e6c_9fed;
+
+/// A table without timers has the same picture in both editions, but for the words that say which.
+#[test]
+fn edition_2_is_told() {
+    let lines = |edition| -> Vec<String> {
+        let table = in_edition(edition, &chain_of_two());
+        let history = play(&encode(&table), &played().ticks);
+        let picture = svg(&table, &history, &[]);
+        picture.lines().map(str::to_string).collect()
+    };
+    let (first, mut second) = (lines(1), lines(2));
+    let told = second.iter().position(|line| line.contains(">edition 2"));
+    second.remove(told.expect("a line that tells it"));
+    assert_eq!(first, second);
+}
+
+/// The numbers above the polling points count timers in edition 2, and the line of such a point
+/// goes through the rows where a timer alone is taken.
+#[test]
+fn polls_of_timers() {
+    let table = full(vec![timer(20, &[1]), subscription(20, &[1])]);
+    let drawn = |edition, mask| {
+        let table = in_edition(edition, &table);
+        let history = play(&encode(&table), &[tick(mask, 1)]);
+        svg(&table, &history, &[])
+    };
+    let number = |picture: &str, number: &str| {
+        count(picture, &["y=\"32\"", "middle", &format!(">{number}<")])
+    };
+    let through = |picture: &str| count(picture, &["#7f5fa0", "x1=\"190\"", "y2=\"114\""]);
+    assert_eq!([1, 3].map(|mask| number(&drawn(2, mask), "1")), [1, 0]);
+    assert_eq!([1, 3].map(|mask| number(&drawn(2, mask), "2")), [0, 1]);
+    assert_eq!([1, 3].map(|mask| through(&drawn(2, mask))), [1, 1]);
+    assert_eq!([1, 3].map(|mask| through(&drawn(1, mask))), [0, 0]);
+}
 
 #[test]
 fn parts_show_what_falls_in_them() {

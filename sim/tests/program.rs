@@ -144,6 +144,13 @@ fn status_of_frames() {
     says(&["histories"], &input, 1, "0 refused 20 3\n");
     let input = packed_history(&[], &ticks);
     says(&["histories"], &input, 1, "refused 1 0\n0 refused 29 0\n");
+    let two = [
+        packed_history(&bytes, &ticks),
+        packed_history(&bytes, &ticks),
+    ]
+    .concat();
+    says(&["histories"], &two, 0, "0 4 1 1 1 1 1\n0 4 1 1 1 1 1\n");
+    says(&["histories"], b"", 0, "");
 }
 
 /// What is whole is printed; the rest cannot be read.
@@ -152,6 +159,7 @@ fn frames_cut_short() {
     let bytes = encode(&pair());
     let two = [framed(&bytes), framed(&bytes)].concat();
     let history = packed_history(&bytes, &[(tick(1, 1), 1), (tick(0, 1), 1)]);
+    let more = [&packed_history(&bytes, &[]), &history[..84]].concat();
     for (words, input, output, error) in [
         ("readings", &two[..two.len() - 1], "0 0\n", "frame 2"),
         ("readings", &two[..1], "", "frame 1"),
@@ -159,10 +167,11 @@ fn frames_cut_short() {
             "histories",
             &history[..history.len() - 1],
             "0 4 1 1 1 1 1\n",
-            "tick 1",
+            "history 1, tick 1",
         ),
-        ("histories", &history[..20], "", "frame 1"),
-        ("histories", &[], "", "frame 1"),
+        ("histories", &history[..20], "", "history 1"),
+        ("histories", &history[..85], "", "history 1"),
+        ("histories", &more, "", "history 2"),
     ] {
         let ended = run(&[words], input);
         assert_eq!((ended.status, &ended.output[..]), (Some(2), output));
@@ -291,6 +300,10 @@ fn wrong_words() {
         &["generate", "history", "1", "within", "x"],
         &["generate", "history", "1", "within", "1", "-", "x"],
         &["generate", "tables", "1", "1", "tiny"],
+        &["generate", "histories", "0"],
+        &["generate", "histories", "3"],
+        &["generate", "histories", "x"],
+        &["generate", "histories", "2", "2"],
         &["check", "1"],
         &["check", "1", "-1"],
         &["check", "1", "1", "1", "1"],

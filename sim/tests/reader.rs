@@ -52,6 +52,9 @@ fn layout() {
     expected.extend([3, 0, 2, 0, 6, 5, 8, 7, 2, 3, 0, 0, 1, 0, 2, 2]);
     expected.extend([0; 16]);
     assert_eq!(encode(&table), expected);
+    expected[0] = 2;
+    assert_eq!(encode(&in_edition(2, &table)), expected);
+    assert_eq!(read(&expected), Ok(in_edition(2, &table)));
 }
 
 #[test]
@@ -63,14 +66,30 @@ fn refusals_1_to_4() {
     assert_eq!(read(&bytes[..16]).err(), refused(4, 0));
     assert_eq!(read(&bytes[..111]).err(), refused(4, 0));
     assert_eq!(read(&[&bytes[..], &[0]].concat()).err(), refused(4, 0));
-    for edition in [0, 2, 255] {
+    for edition in [0, 3, 255] {
         assert_eq!(written(0, edition), refused(2, 0));
     }
+    assert_eq!([1, 2].map(|edition| written(0, edition)), [None, None]);
     for count in [0, 17, 255] {
         assert_eq!(written(1, count), refused(3, 0));
     }
     for count in [1, 2, 4, 16] {
         assert_eq!(written(1, count), refused(4, 0));
+    }
+}
+
+/// U1 moves nothing in the order: a header cut short, the edition, the count.
+#[test]
+fn edition_in_its_order() {
+    for edition in [0, 1, 2, 3, 255] {
+        let mut bytes = encode(&in_edition(edition, &chain()));
+        let taken = edition == 1 || edition == 2;
+        let outcome = |refusal| if taken { refusal } else { refused(2, 0) };
+        assert_eq!(read(&bytes[..15]).err(), refused(1, 0));
+        assert_eq!(read(&bytes[..16]).err(), outcome(refused(4, 0)));
+        assert_eq!(read(&bytes).err(), outcome(None));
+        bytes[1] = 0;
+        assert_eq!(read(&bytes).err(), outcome(refused(3, 0)));
     }
 }
 
@@ -226,10 +245,17 @@ fn refusal_14() {
 fn every_number_is_reached() {
     let mut random = Random::new(2);
     for number in NUMBERS {
+        let mut editions = [0; 256];
         for _ in 0..300 {
             let bytes = refused_with(&mut random, number);
             let result = analyse(&bytes, &mut [0; 16]);
             assert_eq!(result.err().map(|refusal| refusal.number), Some(number));
+            editions[usize::from(bytes.first().copied().unwrap_or(0))] += 1;
         }
+        let met: &[usize] = if number == 2 { &[0, 3, 255] } else { &[1, 2] };
+        assert!(
+            met.iter().all(|&edition| editions[edition] > 60),
+            "{number}"
+        );
     }
 }

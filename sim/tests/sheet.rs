@@ -2,7 +2,7 @@
 
 mod common;
 use common::*;
-use sim::generate::tables::{table, Shape};
+use sim::generate::tables::{any_shape, table, Shape};
 use sim::random::Random;
 use sim::sheet::{analyse, arrivals, bound_literal, bounds, cost, supply, window, window_literal};
 use sim::table::{encode, Kind, Table};
@@ -62,6 +62,22 @@ fn finish_does_not_fall_and_stays_within_the_window() {
             assert_eq!(longest, Some(bound_literal(&table, index, window)));
         }
     }
+}
+
+/// U1: the inequalities are one and the same, so window, bounds and refusals are.
+#[test]
+fn same_sheet_in_both_editions() {
+    let mut random = Random::new(27);
+    let mut accepted = 0;
+    for _ in 0..600 {
+        let shape = any_shape(&mut random);
+        let mut table = table(&mut random, shape);
+        table.horizon = random.range(1, 4_000);
+        let first = sheet(&in_edition(1, &table));
+        assert_eq!(first, sheet(&in_edition(2, &table)));
+        accepted += u64::from(first.is_ok());
+    }
+    assert!(accepted > 200);
 }
 
 #[test]

@@ -7,6 +7,7 @@ use sim::generate::edges::{base, edges};
 use sim::generate::histories::covering;
 use sim::table::encode;
 use sim::text::{from_hex, hex, script, script_text};
+use std::ops::Range;
 
 /// The program's print of P6.
 #[test]
@@ -14,7 +15,7 @@ fn sheet_of_p6() {
     let table = full(vec![timer(10, &[2]), subscription(20, &[3])]);
     let bytes = encode(&table);
     assert_eq!(program(&["sheet"], &bytes), "window 5\n1 5\n2 5\n");
-    assert_eq!(program(&["sheet"], &bytes[1..]), "refused 2 0\n");
+    assert_eq!(program(&["sheet"], &bytes[3..]), "refused 2 0\n");
     let lines = format!("{}\n\n{}\n", hex(&bytes), hex(&bytes[..20]));
     assert_eq!(
         program(&["sheets"], lines.as_bytes()),
@@ -125,16 +126,96 @@ fn binary_input_covers() {
             .lines()
             .any(|line| line.starts_with(&format!("{number} "))));
     }
-    let text = replies(&packed_history(&encode(&base()), &covering()));
-    for said in [
-        "1 0 0 0 0",
-        "2 0 0 0 1",
-        "3 2",
-        "4 2",
-        "refused 19",
-        "refused 20",
-        "refused 21",
-    ] {
-        assert!(text.contains(&format!(" {said} ")), "{said}");
+    for edition in [1, 2] {
+        let text = replies(&packed_history(&encode(&base(edition)), &covering(edition)));
+        for said in [
+            "1 0 0 0 0",
+            "2 0 0 0 1",
+            "3 2",
+            "4 2",
+            "refused 19",
+            "refused 20",
+            "refused 21",
+        ] {
+            assert!(text.contains(&format!(" {said} ")), "{edition}: {said}");
+        }
     }
+}
+
+/// Each table at the edges stands in both editions. Other editions are refused with 2, a wrong count
+/// or not, and with 1 where the header is cut short.
+#[test]
+fn edges_of_both_editions() {
+    let tables = edges();
+    let of = |edition: u8| tables.iter().filter(move |t| t.first() == Some(&edition));
+    let twin = |table: &Vec<u8>| [&[2], &table[1..]].concat();
+    assert!(of(1).count() > 400 && of(1).map(twin).eq(of(2).cloned()));
+    for (edition, text) in [(0, "2 0\n"), (3, "2 0\n1 0\n2 0\n2 0\n"), (255, "2 0\n")] {
+        let frames: Vec<u8> = of(edition).flat_map(|bytes| framed(bytes)).collect();
+        assert_eq!(readings(&frames), text);
+    }
+}
+
+/// The history of edition 1, as a digest of the hex of its table and its ticks, is what it was when
+/// there was no other.
+#[test]
+fn history_of_edition_1_is_what_it_was() {
+    let table = framed(&encode(&base(1)));
+    let packed = packed_history(&encode(&base(1)), &covering(1));
+    let ticks = &packed[table.len() + 4..];
+    assert_eq!(digest([hex(&table) + &hex(ticks)]), 0xcd99_ef4e_de98_e981);
+}
+
+/// Ticks of the history of edition 2.
+fn second_history(ticks: Range<usize>) -> Vec<String> {
+    let text = replies(&packed_history(&encode(&base(2)), &covering(2)));
+    let lines = text.lines().map(str::to_string);
+    lines.take(ticks.end).skip(ticks.start).collect()
+}
+
+/// The history of edition 2 from its first poll to idleness, reckoned by hand from step 3 and U1.
+/// Timer 1 activates subscription 2; service 4 goes before client 3.
+#[test]
+fn history_of_edition_2() {
+    let polls = [
+        "27 4 1 1 1 1 1",
+        "28 3 1 2 1 1 4",
+        "29 4 1 2 0 0 0",
+        "30 1 0 0 0 0 0",
+        "31 3 2 1 1 0 0",
+        "32 3 2 1 0 0 0",
+        "33 4 2 1 0 0 0",
+        "34 4 4 1 1 0 0",
+        "35 4 3 1 1 0 0",
+        "36 4 1 3 1 1 2",
+        "37 4 2 2 1 0 0",
+        "38 4 1 4 1 1 2",
+        "39 4 2 3 1 0 0",
+        "40 4 1 5 1 1 2",
+        "41 4 2 4 1 0 0",
+        "42 4 2 5 1 1 1",
+        "43 2 0 0 0 1 0",
+    ];
+    assert_eq!(second_history(27..44), polls);
+}
+
+/// From tick 302 on 255 beats have room; one more, and two in supplied ticks, have not. Then the
+/// timer runs once a poll.
+#[test]
+fn full_timer_of_edition_2() {
+    let full = [
+        "556 1 0 0 0 0 0",
+        "557 refused 21 1",
+        "558 refused 21 1",
+        "559 refused 21 1",
+        "560 4 1 6 1 1 2",
+        "561 4 3 2 1 0 0",
+        "562 refused 21 1",
+        "563 4 1 7 1 1 3",
+        "564 4 2 6 1 0 0",
+        "565 refused 21 1",
+        "566 4 3 3 1 0 0",
+        "567 refused 21 1",
+    ];
+    assert_eq!(second_history(556..568), full);
 }

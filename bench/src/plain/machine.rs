@@ -1,6 +1,8 @@
 //! The tick on lent bytes.
 
-use super::table::{all, read, refuse, word, zero, Table, HEADER, LARGEST, PLACES, RECORD, TIMER};
+use super::table::{
+    all, read, refuse, word, zero, Table, EDITION_TWO, HEADER, LARGEST, PLACES, RECORD, TIMER,
+};
 use library::{Refusal, Reply};
 
 const LENGTH: usize = 640;
@@ -59,7 +61,11 @@ fn waits(machine: &Machine) -> u16 {
     mask
 }
 
-fn timers(table: &Table) -> u16 {
+/// The slots that no polling point gathers.
+fn unpolled(table: &Table) -> u16 {
+    if table.edition == EDITION_TWO {
+        return 0;
+    }
     table.kinds[usize::from(TIMER) - 1]
 }
 
@@ -84,14 +90,14 @@ fn faulty(machine: &Machine) -> bool {
     {
         return true;
     }
-    if machine.cache & !waits != 0 || machine.cache & timers(&machine.table) != 0 {
+    if machine.cache & !waits != 0 || machine.cache & unpolled(&machine.table) != 0 {
         return true;
     }
     if machine.running == 0 {
         return machine.units != 0;
     }
     let running = 1 << (machine.running - 1);
-    let able = (timers(&machine.table) & waits) | machine.cache;
+    let able = (unpolled(&machine.table) & waits) | machine.cache;
     able & running == 0 || machine.units == 0 || machine.units > LARGEST
 }
 
@@ -132,9 +138,9 @@ fn full(machine: &Machine, activated: u16) -> u16 {
 /// Chooses what to run, where nothing does.
 fn choose(machine: &mut Machine, arrived: u16, cost: u32, reply: &mut Reply) {
     let waits = waits(machine) | arrived;
-    let timers = timers(&machine.table);
-    let ready = if waits & timers != 0 {
-        waits & timers
+    let first_of_all = waits & unpolled(&machine.table);
+    let ready = if first_of_all != 0 {
+        first_of_all
     } else {
         if machine.cache == 0 {
             machine.cache = waits;

@@ -8,6 +8,9 @@ pub const HEADER: usize = 16;
 pub const RECORD: usize = 32;
 const ENTRIES: usize = 8;
 
+const EDITION_ONE: u8 = 1;
+pub const EDITION_TWO: u8 = 2;
+
 pub const TIMER: u8 = 1;
 pub const KINDS: usize = 4;
 
@@ -23,6 +26,7 @@ pub struct Callback {
 
 /// A table that the reader took, with what the links say.
 pub struct Table {
+    pub edition: u8,
     pub count: usize,
     pub budget: u16,
     pub period: u16,
@@ -73,7 +77,7 @@ fn header(bytes: &[u8]) -> Result<Table, Refusal> {
     if bytes.len() < HEADER {
         return Err(refuse(1, 0));
     }
-    if bytes[0] != 1 {
+    if !(EDITION_ONE..=EDITION_TWO).contains(&bytes[0]) {
         return Err(refuse(2, 0));
     }
     let count = usize::from(bytes[1]);
@@ -94,6 +98,7 @@ fn header(bytes: &[u8]) -> Result<Table, Refusal> {
         return Err(refuse(7, 0));
     }
     Ok(Table {
+        edition: bytes[0],
         count,
         budget,
         period,

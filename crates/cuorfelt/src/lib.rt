@@ -23,7 +23,7 @@ pub extern "C" fn cuorfelt_state_length() -> usize
     STATE_LENGTH
 }
 
-// The refusal of a table's bytes, 1 to 14, or number 0.
+// The refusal of a table's bytes, or number 0.
 #[no_mangle]
 pub extern "C" fn cuorfelt_read(table: &[u8]) -> Refusal
     ensures { λ r. ⌜ r ≡ readFault (now (table .entry)) ⌝ }

@@ -7,7 +7,7 @@ pub mod starting;
 mod state;
 mod ticks;
 
-// The state: the table, instances waiting and finished of each callback, the cache, the running callback's index
+// The state: the table, and with it the edition; instances waiting and finished of each callback, the cache, the running callback's index
 // (0 where nothing runs), its units left, and the ticks taken.
 pub struct Machine {
     pub table: table::Table,

@@ -80,7 +80,7 @@ pub fn slots_fault(
         let c = t.callbacks[i as usize];
         let cached = masks::test_slot(cache, i as u16);
         let runs = running == i + 1;
-        let polls = polled(c.kind);
+        let polls = polled(t.edition, c.kind);
         if slot_fault(
             i >= t.count,
             cached,

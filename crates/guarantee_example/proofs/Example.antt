@@ -1,19 +1,21 @@
--- The claim is not empty: the table and the history of specs/Example meet its premises, by computation, so its conclusions hold of them.
---   Computed, computed   what the definitions compute: results, row, and that the history is within the curves
---   guaranteed           the guarantee, of this history
---   in-time, tight       the first completion of the service is there by time 13, and it is at 13
+-- The claim is not empty: the tables and histories of specs/Example, one of each edition, meet its premises, by computation, so its conclusions hold of them.
+--   Computed, computed   what the definitions compute: results, row, that the history is within the curves, and the completion that meets a bound
+--   guaranteed, in-time  the guarantee of such a history, and the completion it has promised; `meets` in Computed says that this one comes at its bound, to the tick
 use mathlib.Core.Path.{_≡_, refl, subst}
 use mathlib.Core.Bool.{true}
 use mathlib.Core.List.{List}
-use Prim.Native.Nat.{ℕ, _≤_}
-use native.Mathlib.Omega.{arith}
-use lib.ListN.{length, replicate}
+use Prim.Native.Nat.{ℕ, _+_, _≤_}
+use lib.Dec.{T, ltb, leb}
+use lib.ListN.{length, getD, replicate}
+use borrow.Author.Tests.{ltb-true, leb-true}
 use Rattle.masks.specs.Mask.{has, withBit, withoutBit, gather, countOf}
 use Rattle.lent.specs.Bytes.{numbers, run, zeros, fieldsAt, fieldBytes}
 use Rattle.lent.specs.Over.{over}
 use Rattle.ranges.specs.Sum.{sum}
 use Rattle.ranges.specs.Least.{least, largest}
 use Rattle.ranges.specs.Every.{every, some}
+use Rattle.ranges.proofs.EveryLaws.{holds}
+use Rattle.numbers.specs.Numbers.{mostTicks}
 use Rattle.curves.specs.Arrivals.{ceiling, arrivals}
 use Rattle.curves.specs.Cost.{cost}
 use Rattle.curves.specs.Supply.{supply}
@@ -41,44 +43,68 @@ use Rattle.guarantee.specs.History.{Result, results, tickAt, resultAt, complete
 use Rattle.guarantee.specs.Within.{WithinCurves}
 use Rattle.guarantee.specs.Claim.{Guaranteed}
 use Rattle.guarantee.proofs.Guarantee.{guarantee}
-use Rattle.guarantee_example.specs.Example.{bytes, ticks, says, row}
+use Rattle.guarantee_example.specs.Example.{Case, one, two}
 use Rattle.guarantee_example.proofs.Decide.{everyWindow, arrivalsHold, supplyHolds, costsHold, headsHold, offerHolds, withinTest, decided}
 
 -- a row of sixteen places, as the host lends it
-abbrev lent : List ℕ
+abbrev pub lent : List ℕ
 lent = replicate 16 0
 
--- what the definitions compute of the example
-record Computed : Type 0 where
+-- when the bound of a case is over
+abbrev pub due : Case → ℕ
+due c = c .activated + getD (c .row) (c .slot) 0
+
+-- what the definitions compute of a case
+pub record Computed (c : Case) : Type 0 where
   -- what the machine says, tick by tick
-  replied : results ((startOf bytes) .machine) ticks ≡ says
+  pub replied : results ((startOf (c .bytes)) .machine) (c .ticks) ≡ c .says
   -- the analyser accepts the table, and writes the row
-  accepted : (analysisFault bytes (length lent)) .number ≡ 0
-  written : rowOf bytes lent ≡ row
-  -- the history is within the curves
-  within : withinTest (tableAt bytes) ticks says ≡ true
-  -- there are thirty ticks and three callbacks; the head of the service's chain is activated for the first time at 2
-  thirty : length ticks ≡ 30
-  three : (tableAt bytes) .count ≡ 3
-  activated-at-2 : activation (tableAt bytes) ticks says (headOf (tableAt bytes) 2) 1 2
+  pub accepted : (analysisFault (c .bytes) (length lent)) .number ≡ 0
+  pub written : rowOf (c .bytes) lent ≡ c .row
+  -- the history is within the curves, and no longer than the clock
+  pub within : withinTest (tableAt (c .bytes)) (c .ticks) (c .says) ≡ true
+  pub short : T (leb (length (c .ticks)) mostTicks)
+  -- the slot is one of the table; the activation is there, and its bound is over before the history is
+  pub known : T (ltb (c .slot) ((tableAt (c .bytes)) .count))
+  pub activated : activation (tableAt (c .bytes)) (c .ticks) (c .says) (headOf (tableAt (c .bytes)) (c .slot)) (c .count) (c .activated)
+  pub reached : T (leb (due c) (length (c .ticks)))
+  -- the completion comes at the bound
+  pub meets : completion (c .says) (c .slot) (c .count) (due c)
 
-computed : Computed
-unfolding has withBit withoutBit gather countOf numbers run zeros fieldsAt fieldBytes over sum least largest every some ceiling arrivals cost supply limit horizonOf walk linked named isHead onLoop nextAfter foreign foremostFrom feeder headFrom headOf arrivalsFault linksFault headFault supplyFault entriesFault unusedFault recordFault recordsFrom bodyFault faultOf recordAt spareAt recordsTo tableAt sparesAt wholeFault readFault readOf covered coveredFor window finish bound arrivalsOf costOf supplyOf windowOf boundOf tooManyAt sheetFault analysisFault boundsTo rowOf arrivedTo arrived counted fullWith polled gatheredOf choose turnOf stepOf tableFault beyondWrong countWrong cacheWrong slotWrong runWrong fresh faulty unsupplied instanceAt left served effect full tickFault refused tickOf startOf results tickAt resultAt completesAt releasesAt releasedBy activatedAt activations activation startsAt completions completion bytes ticks says row everyWindow arrivalsHold supplyHolds costsHold headsHold offerHolds withinTest
-computed = record { replied = refl; accepted = refl; written = refl; within = refl; thirty = refl; three = refl; activated-at-2 = (tt, refl) }
+-- all of it by computation, of both
+pub computed : Computed one × Computed two
+unfolding has withBit withoutBit gather countOf numbers run zeros fieldsAt fieldBytes over sum least largest every some ceiling arrivals cost supply limit horizonOf walk linked named isHead onLoop nextAfter foreign foremostFrom feeder headFrom headOf arrivalsFault linksFault headFault supplyFault entriesFault unusedFault recordFault recordsFrom bodyFault faultOf recordAt spareAt recordsTo tableAt sparesAt wholeFault readFault readOf covered coveredFor window finish bound arrivalsOf costOf supplyOf windowOf boundOf tooManyAt sheetFault analysisFault boundsTo rowOf arrivedTo arrived counted fullWith polled gatheredOf choose turnOf stepOf tableFault beyondWrong countWrong cacheWrong slotWrong runWrong fresh faulty unsupplied instanceAt left served effect full tickFault refused tickOf startOf results tickAt resultAt completesAt releasesAt releasedBy activatedAt activations activation startsAt completions completion one two everyWindow arrivalsHold supplyHolds costsHold headsHold offerHolds withinTest
+computed = (
+  record { replied = refl; accepted = refl; written = refl; within = refl; short = tt; known = tt; activated = (tt, refl); reached = tt; meets = (tt, refl) },
+  record { replied = refl; accepted = refl; written = refl; within = refl; short = tt; known = tt; activated = (tt, refl); reached = tt; meets = (tt, refl) },
+)
 
--- the guarantee, of this history
-pub guaranteed : Guaranteed (tableAt bytes) row ticks says
-guaranteed =
-    subst (λ (x : List ℕ). Guaranteed (tableAt bytes) x ticks says) (computed .written)
-    (subst (λ (r : List Result). WithinCurves (tableAt bytes) ticks r → Guaranteed (tableAt bytes) (rowOf bytes lent) ticks r) (computed .replied)
-    (guarantee bytes lent ticks (computed .accepted) (omega (arith, computed .thirty))) (decided (tableAt bytes) ticks says (computed .within)))
+module _ (c : Case) (k : Computed c) where
+  -- the guarantee, of this history
+  pub guaranteed : Guaranteed (tableAt (c .bytes)) (c .row) (c .ticks) (c .says)
+  guaranteed =
+      subst (λ (x : List ℕ). Guaranteed (tableAt (c .bytes)) x (c .ticks) (c .says)) (k .written)
+      (subst (λ (r : List Result). WithinCurves (tableAt (c .bytes)) (c .ticks) r → Guaranteed (tableAt (c .bytes)) (rowOf (c .bytes) lent) (c .ticks) r) (k .replied)
+      (guarantee (c .bytes) lent (c .ticks) (k .accepted) (leb-true _ _ (holds _ (k .short)))) (decided (tableAt (c .bytes)) (c .ticks) (c .says) (k .within)))
 
--- so, its bound being 11, the service's first completion is there at 13 or earlier
-pub in-time : (t : ℕ) × (t ≤ 13) × completion says 2 1 t
-unfolding row
-in-time = guaranteed .finished 2 1 2 (omega (arith, computed .three)) (computed .activated-at-2) (omega (arith, computed .thirty))
+  -- so the completion is there by the time that the bound is over
+  pub in-time : (t : ℕ) × (t ≤ due c) × completion (c .says) (c .slot) (c .count) t
+  in-time = guaranteed .finished (c .slot) (c .count) (c .activated) (ltb-true _ _ (holds _ (k .known))) (k .activated) (leb-true _ _ (holds _ (k .reached)))
 
--- and it is at 13: the bound is met to the tick
-pub tight : completion says 2 1 13
-unfolding completion completions completesAt resultAt says sum
-tight = (tt, refl)
+-- edition 1: the service's first completion is there at 13 or earlier, and it is at 13
+pub in-time-one : (t : ℕ) × (t ≤ 13) × completion (one .says) 2 1 t
+unfolding one
+in-time-one = in-time one (computed .0)
+
+pub tight-one : completion (one .says) 2 1 13
+unfolding one
+tight-one = computed .0 .meets
+
+-- edition 2: the timer's second completion is there at 9 or earlier, and it is at 9
+pub in-time-two : (t : ℕ) × (t ≤ 9) × completion (two .says) 0 2 t
+unfolding two
+in-time-two = in-time two (computed .1)
+
+pub tight-two : completion (two .says) 0 2 9
+unfolding two
+tight-two = computed .1 .meets

@@ -1,6 +1,9 @@
--- A table and a history within its curves, as data: the claim is not empty (proofs/Example).
--- The table: supply of 4 ticks in 5; a timer (T 14, J 8, d 6, entry 2), a subscription (T 17, J 12, d 8, entries 2, 3) and a service that it activates (entry 1).
--- Its window is 13, its bounds are 8, 11 and 11. In the history the service finishes for the first time at 13, its head's activation being at 2: just the bound.
+-- A table and a history within its curves for each edition, as data: the claim is empty for neither (proofs/Example).
+-- Edition 1: supply of 4 ticks in 5; a timer (T 14, J 8, d 6, entry 2), a subscription (T 17, J 12, d 8, entries 2, 3) and a service that it activates (entry 1).
+-- The window is 13, the bounds are 8, 11 and 11. The service finishes for the first time at 13, its head's activation being at 2: just the bound.
+-- Edition 2: the same supply; a timer (T 12, J 14, d 3, entry 2) and two subscriptions (T 29, J 5, d 7, entry 1; T 25, J 9, d 11, entries 1, 2).
+-- The window is 9, the bounds are 6, 9 and 9. The timer's second activation, at 3, finds both subscriptions in the cache; it waits until they have run and
+-- a polling point takes it at 7, and finishes at 9: just the bound. In edition 1 it would have run at 4.
 use mathlib.Core.Bool.{true, false}
 use mathlib.Core.List.{List, [], _∷_, _++_}
 use Prim.Native.Nat.{ℕ}
@@ -9,16 +12,25 @@ use Rattle.answers.specs.declared.Answer.the-variants.{NoSupply, Idle, Ran, Fin
 use Rattle.answers.specs.declared.Outcome.the-variants.{Answered}
 use Rattle.guarantee.specs.History.{Tick, Result}
 
+pub record Case : Type 0 where
+  -- a table, ticks, what the machine says to them, and the row that the analyser writes over sixteen zeros
+  pub bytes : List ℕ
+  pub ticks : List Tick
+  pub says : List Result
+  pub row : List ℕ
+  -- the slot whose bound is met, by which of its completions, and the time of that activation of its chain's head
+  pub slot : ℕ
+  pub count : ℕ
+  pub activated : ℕ
+
 -- a record of 32 bytes with two entries at most, all numbers below 256
 abbrev callback : ℕ → ℕ → ℕ → ℕ → ℕ → ℕ → ℕ → ℕ → List ℕ
 callback kind next m T J d e₁ e₂ =
     kind ∷ next ∷ m ∷ 0 ∷ T ∷ 0 ∷ J ∷ 0 ∷ d ∷ 0 ∷ 0 ∷ 0 ∷ e₁ ∷ 0 ∷ e₂ ∷ 0 ∷ replicate 16 0
 
--- edition 1, three callbacks, Q 4, P 5, H 60
-unfoldable pub bytes : List ℕ
-bytes =
-    (1 ∷ 3 ∷ 4 ∷ 0 ∷ 5 ∷ 0 ∷ 60 ∷ 0 ∷ replicate 8 0)
-    ++ (callback 1 0 1 14 8 6 2 0 ++ (callback 2 3 2 17 12 8 2 3 ++ callback 3 0 1 0 0 0 1 0))
+-- edition and callbacks, with Q 4, P 5 and H 60
+abbrev header : ℕ → ℕ → List ℕ
+header edition n = edition ∷ n ∷ 4 ∷ 0 ∷ 5 ∷ 0 ∷ 60 ∷ 0 ∷ replicate 8 0
 
 -- a supplied tick with its mask and cost, and one without supply
 abbrev on : ℕ → ℕ → Tick
@@ -27,16 +39,8 @@ on mask cost = record { mask = mask; supplied = true; cost = cost }
 abbrev off : ℕ → Tick
 off mask = record { mask = mask; supplied = false; cost = 1 }
 
--- thirty ticks: the timer is activated at 2, 8 and 22, the subscription at 2, 10 and 24
-unfoldable pub ticks : List Tick
-ticks =
-    on 0 1 ∷ on 0 1 ∷ off 3 ∷ off 0 ∷ on 0 2 ∷ on 0 1 ∷ on 0 2 ∷ on 0 1 ∷ off 1 ∷ on 0 2
-    ∷ on 2 1 ∷ on 0 1 ∷ on 0 1 ∷ off 0 ∷ on 0 1 ∷ on 0 1 ∷ on 0 1 ∷ on 0 1 ∷ off 0 ∷ on 0 1
-    ∷ on 0 1 ∷ on 0 1 ∷ on 1 2 ∷ off 0 ∷ on 2 1 ∷ on 0 2 ∷ on 0 1 ∷ on 0 1 ∷ off 0 ∷ on 0 1
-    ∷ []
-
 -- what ticks say: no supply; idle, at a polling point that takes none; goes on; finishes; and the first two of an instance that starts,
--- chosen at a polling point that takes g, or at none (g = 0: a timer, or from the cache)
+-- chosen at a polling point that takes g, or at none (a timer of edition 1, or from the cache)
 abbrev none : Result
 none = record { outcome = Answered NoSupply; started = false; polled = false; gathered = 0 }
 
@@ -58,13 +62,40 @@ polls-starts i k g = record { outcome = Answered (Ran i k); started = true; poll
 abbrev polls-ends : ℕ → ℕ → ℕ → Result
 polls-ends i k g = record { outcome = Answered (Finished i k); started = true; polled = true; gathered = g }
 
-unfoldable pub says : List Result
-says =
-    idle ∷ idle ∷ none ∷ none ∷ starts 1 1 ∷ ends 1 1 ∷ polls-starts 2 1 1 ∷ ends 2 1 ∷ none ∷ starts 1 2
-    ∷ ends 1 2 ∷ polls-ends 2 2 2 ∷ starts-ends 3 1 ∷ none ∷ polls-ends 3 2 1 ∷ idle ∷ idle ∷ idle ∷ none ∷ idle
-    ∷ idle ∷ idle ∷ starts 1 3 ∷ none ∷ ends 1 3 ∷ polls-starts 2 3 1 ∷ ends 2 3 ∷ polls-ends 3 3 1 ∷ none ∷ idle
-    ∷ []
+-- the timer is activated at 2, 8 and 22, the subscription at 2, 10 and 24
+unfoldable pub one : Case
+one = record {
+  bytes = header 1 3 ++ (callback 1 0 1 14 8 6 2 0 ++ (callback 2 3 2 17 12 8 2 3 ++ callback 3 0 1 0 0 0 1 0));
+  ticks =
+      on 0 1 ∷ on 0 1 ∷ off 3 ∷ off 0 ∷ on 0 2 ∷ on 0 1 ∷ on 0 2 ∷ on 0 1 ∷ off 1 ∷ on 0 2
+      ∷ on 2 1 ∷ on 0 1 ∷ on 0 1 ∷ off 0 ∷ on 0 1 ∷ on 0 1 ∷ on 0 1 ∷ on 0 1 ∷ off 0 ∷ on 0 1
+      ∷ on 0 1 ∷ on 0 1 ∷ on 1 2 ∷ off 0 ∷ on 2 1 ∷ on 0 2 ∷ on 0 1 ∷ on 0 1 ∷ off 0 ∷ on 0 1
+      ∷ [];
+  says =
+      idle ∷ idle ∷ none ∷ none ∷ starts 1 1 ∷ ends 1 1 ∷ polls-starts 2 1 1 ∷ ends 2 1 ∷ none ∷ starts 1 2
+      ∷ ends 1 2 ∷ polls-ends 2 2 2 ∷ starts-ends 3 1 ∷ none ∷ polls-ends 3 2 1 ∷ idle ∷ idle ∷ idle ∷ none ∷ idle
+      ∷ idle ∷ idle ∷ starts 1 3 ∷ none ∷ ends 1 3 ∷ polls-starts 2 3 1 ∷ ends 2 3 ∷ polls-ends 3 3 1 ∷ none ∷ idle
+      ∷ [];
+  row = 8 ∷ 11 ∷ 11 ∷ replicate 13 0;
+  slot = 2;
+  count = 1;
+  activated = 2;
+}
 
--- the row that the analyser writes over sixteen zeros
-unfoldable pub row : List ℕ
-row = 8 ∷ 11 ∷ 11 ∷ replicate 13 0
+-- the timer is activated at 0, 3 and 10, the subscriptions at 0 and 1; the first polling point takes all three
+unfoldable pub two : Case
+two = record {
+  bytes = header 2 3 ++ (callback 1 0 1 12 14 3 2 0 ++ (callback 2 0 1 29 5 7 1 0 ++ callback 2 0 2 25 9 11 1 2));
+  ticks =
+      off 3 ∷ off 4 ∷ on 0 2 ∷ on 1 1 ∷ on 0 1 ∷ on 0 1 ∷ off 0 ∷ on 0 2 ∷ on 0 1 ∷ on 0 1
+      ∷ on 1 2 ∷ off 0 ∷ on 0 1 ∷ on 0 1
+      ∷ [];
+  says =
+      none ∷ none ∷ polls-starts 1 1 3 ∷ ends 1 1 ∷ starts-ends 2 1 ∷ starts-ends 3 1 ∷ none ∷ polls-starts 1 2 1 ∷ ends 1 2 ∷ idle
+      ∷ polls-starts 1 3 1 ∷ none ∷ ends 1 3 ∷ idle
+      ∷ [];
+  row = 6 ∷ 9 ∷ 9 ∷ replicate 13 0;
+  slot = 0;
+  count = 2;
+  activated = 3;
+}

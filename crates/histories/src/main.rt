@@ -1,5 +1,5 @@
-// Runs a history and prints what the machine says, a line for each tick.
-// Standard input: the table's length in two bytes, its bytes, then seven bytes for each tick until the input ends: mask in two,
+// Runs histories and prints what the machine says, a line for each tick.
+// Standard input: for each history the table's length in two bytes, its bytes, the number of ticks in four, then seven bytes for each tick: mask in two,
 // supplied in one, cost in four, little-endian. A refused start prints `refused`, number, index. A tick prints its place from 0, the
 // answer's number, callback, instance, whether one started, whether it polled and how many it took; or its place, `refused`, number, index.
 
@@ -11,8 +11,8 @@ use libc::STDIN_FILENO;
 use libc::STDOUT_FILENO;
 use table::Refusal;
 
-// More ticks than a machine takes.
-const MOST_LINES: u64 = 2000000000;
+// The most histories in a run.
+const MOST_HISTORIES: u32 = 1000000;
 
 // A space and a number.
 fn print_field(n: u64) {
@@ -69,11 +69,9 @@ fn print_tick(place: u64, ticked: Ticked) {
     }
 }
 
-// The machine of the table on standard input; prints the refusal where there is one.
-fn read_start() -> Machine {
-    let mut length = [0u8; 2];
-    io::read_full(STDIN_FILENO, &mut length);
-    let n = lent::get_u16(&length, 0) as usize;
+// The machine of a table of that length on standard input; prints the refusal where there is one.
+fn read_start(length: u16) -> Machine {
+    let n = length as usize;
     let mut bytes = io::large_buffer();
     let got = io::read_full(STDIN_FILENO, &mut bytes[..n]);
     let started = Machine::start(&bytes[..got]);
@@ -84,11 +82,12 @@ fn read_start() -> Machine {
     started.machine
 }
 
-fn main() {
-    let mut machine = read_start();
+// So many ticks of a history on standard input, as far as they are there.
+fn run_ticks(start: Machine, count: u32) {
+    let mut machine = start;
     let mut bytes = [0u8; 7];
-    let mut place: u64 = 0;
-    while place < MOST_LINES {
+    let mut place: u32 = 0;
+    while place < count {
         let got = io::read_full(STDIN_FILENO, &mut bytes);
         if got < 7 {
             return;
@@ -96,8 +95,33 @@ fn main() {
         let mask = lent::get_u16(&bytes, 0);
         let cost = lent::get_u32(&bytes, 3);
         let ticked = machine.tick(mask, bytes[2] != 0, cost);
-        print_tick(place, ticked);
+        print_tick(place as u64, ticked);
         machine = ticked.machine;
         place += 1;
+    }
+}
+
+// Runs the next history; false where there is none.
+fn history() -> bool {
+    let mut two = [0u8; 2];
+    if io::read_full(STDIN_FILENO, &mut two) < 2 {
+        return false;
+    }
+    let machine = read_start(lent::get_u16(&two, 0));
+    let mut four = [0u8; 4];
+    if io::read_full(STDIN_FILENO, &mut four) < 4 {
+        return false;
+    }
+    run_ticks(machine, lent::get_u32(&four, 0));
+    true
+}
+
+fn main() {
+    let mut i: u32 = 0;
+    while i < MOST_HISTORIES {
+        if !history() {
+            return;
+        }
+        i += 1;
     }
 }

@@ -29,8 +29,12 @@ mostWaiting = 255
 abbrev pub mostTicks : ℕ
 mostTicks = 1000000000
 
+-- editions: timers overtake the cache, or wait for a polling point as the rest do
 abbrev pub editionOne : ℕ
 editionOne = 1
+
+abbrev pub editionTwo : ℕ
+editionTwo = 2
 
 -- kinds
 abbrev pub timer : ℕ

@@ -20,7 +20,10 @@ pub const MOST_WAITING: u16 = 255;
 
 pub const MOST_TICKS: u32 = 1000000000;
 
+// Editions: timers overtake the cache, or wait for a polling point as the rest do.
 pub const EDITION_ONE: u8 = 1;
+
+pub const EDITION_TWO: u8 = 2;
 
 // Kinds.
 pub const TIMER: u8 = 1;

@@ -7,10 +7,6 @@ use Rattle.table.specs.declared.Table.{Table}
 use Rattle.numbers.specs.Numbers.{timer, client}
 use Rattle.table.specs.Values.{kindOf}
 
--- whether slot i is a timer
-abbrev pub isTimer : Table → ℕ → Bool
-isTimer t i = eqb (kindOf t i) timer
-
 -- whether slot i has the higher priority
 unfoldable pub precedes : Table → ℕ → ℕ → Bool
 precedes t i j = ltb (kindOf t i) (kindOf t j) || (eqb (kindOf t i) (kindOf t j) && ltb i j)

@@ -57,7 +57,7 @@ module _ (t : Table) (w : Writable t) where
   fit-header : Fit headerFields (headerNumbers t)
   fit-header = (
     refl,
-    (omega (arith, so .edition), (omega (arith, so .few), tt)),
+    (omega (arith, so .edition-to), (omega (arith, so .few), tt)),
     (refl, (omega (arith, so .budget-le, so .period-le), (omega (arith, so .period-le), (omega (arith, so .horizon-le), tt))), (refl, below-zeros 256 8 (omega arith), tt)),
   )
 

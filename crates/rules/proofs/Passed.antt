@@ -8,7 +8,7 @@ use Prim.Native.Nat.{ℕ, zero, suc, _+_, _≤_, _<_}
 use native.Mathlib.Nat.{eq-or-lt-of-le}
 use native.Mathlib.Omega.{arith}
 use lib.Dec.{eqb, ltb, leb}
-use borrow.Author.Tests.{not-false, eqb-true, ltb-false, le-ltb, le-leb, eq-eqb}
+use borrow.Author.Tests.{not-false, ltb-false, le-ltb, le-leb}
 use Rattle.ranges.specs.Least.{lowest}
 use Rattle.ranges.proofs.EveryLaws.{or-fails, every-all, within-passed}
 use Rattle.masks.specs.Mask.{has}
@@ -40,21 +40,23 @@ test-zero false n i r h e = (refl, e)
 -- ---- edition and count
 
 pub record HeadPassed (edition count : ℕ) : Type 0 where
-  pub edition-one : edition ≡ Numbers.editionOne
+  pub edition-from : Numbers.editionOne ≤ edition
+  pub edition-to : edition ≤ Numbers.editionTwo
   pub some : 1 ≤ count
   pub few : count ≤ Numbers.places
 
 pub head-passed : (edition count : ℕ) → (headFault edition count) .number ≡ 0 → HeadPassed edition count
 unfolding headFault
 head-passed edition count e =
-    let one = test-zero (not (eqb edition Numbers.editionOne)) Numbers.unknownEdition 0 _ (λ z. omega arith) e in
+    let one = test-zero (not (within Numbers.editionOne Numbers.editionTwo edition)) Numbers.unknownEdition 0 _ (λ z. omega arith) e in
     let two = test-zero (not (within 1 Numbers.places count)) Numbers.wrongCount 0 accepted (λ z. omega arith) (one .1) in
     let n = within-passed 1 Numbers.places count (not-false _ (two .0)) in
-    record { edition-one = eqb-true edition Numbers.editionOne (not-false _ (one .0)); some = n .0; few = n .1 }
+    let known = within-passed Numbers.editionOne Numbers.editionTwo edition (not-false _ (one .0)) in
+    record { edition-from = known .0; edition-to = known .1; some = n .0; few = n .1 }
 
 pub head-accepted : (edition count : ℕ) → HeadPassed edition count → headFault edition count ≡ accepted
 unfolding headFault
-head-accepted edition count p = simp (eq-eqb edition Numbers.editionOne (p .edition-one), le-leb 1 count (p .some), le-leb count Numbers.places (p .few))
+head-accepted edition count p = simp (le-leb Numbers.editionOne edition (p .edition-from), le-leb edition Numbers.editionTwo (p .edition-to), le-leb 1 count (p .some), le-leb count Numbers.places (p .few))
 
 -- ---- one record
 

@@ -121,7 +121,7 @@ module _ (t : Table) where
 pub sound : (t : Table) → (faultOf t) .number ≡ 0 → Sound t
 sound t ok =
     record {
-      edition = head .edition-one;
+      edition-to = head .edition-to;
       some = head .some;
       few = head .few;
       budget-some = supplied .0;

@@ -4,7 +4,7 @@ use mathlib.Core.Logic.{_≢_}
 use mathlib.Core.Bool.{true, false}
 use Prim.Native.Nat.{ℕ, suc, _≤_, _<_}
 use lib.ListN.{length}
-use Rattle.numbers.specs.Numbers.{places, entryPlaces, longest, timer, client}
+use Rattle.numbers.specs.Numbers.{places, entryPlaces, longest, editionTwo, timer, client}
 use Rattle.curves.specs.Cost.{entry}
 use Rattle.curves.specs.Parts.{RisingEntries}
 use Rattle.table.specs.declared.Table.{Table}
@@ -15,7 +15,7 @@ use Rattle.table.specs.Links.{isHead}
 -- what the tests leave: the header, the record of each slot, the links, the arrivals
 pub record Sound (t : Table) : Type 0 where
   -- the header
-  pub edition : t .edition ≡ 1
+  pub edition-to : t .edition ≤ editionTwo
   pub some : 1 ≤ t .count
   pub few : t .count ≤ places
   pub budget-some : 0 < t .budget

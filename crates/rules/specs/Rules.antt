@@ -18,7 +18,7 @@ use Rattle.link_rules.specs.LinkRules.{linksFault}
 -- 2, then 3: edition and count
 unfoldable pub headFault : ℕ → ℕ → Refusal
 headFault edition count =
-    cond (not (eqb edition Numbers.editionOne)) (refuse Numbers.unknownEdition 0)
+    cond (not (within Numbers.editionOne Numbers.editionTwo edition)) (refuse Numbers.unknownEdition 0)
     (cond (not (within 1 Numbers.places count)) (refuse Numbers.wrongCount 0) accepted)
 
 -- 6: no budget, more than the period, or too long a period

@@ -4,6 +4,7 @@
 use link_rules::links_fault;
 use numbers::CLIENT;
 use numbers::EDITION_ONE;
+use numbers::EDITION_TWO;
 use numbers::ENTRY_PLACES;
 use numbers::LONGEST;
 use numbers::PLACES;
@@ -29,7 +30,10 @@ ghost use Rattle.rules.specs.Rules.{headFault, supplyFault, entriesFault
 pub fn head_fault(edition: u8, count: u8) -> Refusal
     ensures { λ r. ⌜ r ≡ headFault edition count ⌝ }
 {
-    if edition != EDITION_ONE {
+    if edition < EDITION_ONE {
+        return refused(UNKNOWN_EDITION, 0);
+    }
+    if edition > EDITION_TWO {
         return refused(UNKNOWN_EDITION, 0);
     }
     if count == 0 {

@@ -1,29 +1,31 @@
 -- Step 3 of a tick.
 --   Chosen, chooses                        what a choice gives: the chosen one waits and is cached then if it is polled, the cache holds
 --                                          what it should, and somebody is chosen wherever somebody waits. Nothing there asks who is polled.
+--   all-polled, chosen-cached, cache-first  edition 2: nobody is chosen outside the cache, and while it has somebody, a timer that waits outside it
+--                                          goes on waiting
 --   first-unpolled, first-cached, at-poll  what is chosen in masks, search by search
 --   Sorted, one-polled, one-unpolled, one-idle  the slots that wait, one after the other
 --   foremost-same, choose-law              the choice in masks is that of step 3
 use mathlib.Core.Path.{_≡_, refl, sym, ap, ap₂, _∙_}
 use mathlib.Core.Logic.{_≢_}
-use mathlib.Core.Bool.{Bool, true, false, not, _&&_, and-false}
+use mathlib.Core.Bool.{Bool, true, false, not, _&&_, _||_, and-false}
 use mathlib.Core.List.{List}
 use Prim.Native.Nat.{ℕ, zero, suc, _+_, _≤_, _<_}
 use native.Mathlib.Omega.{arith}
 use lib.Dec.{eqb, ltb}
 use lib.ListN.{getD}
-use borrow.Author.Tests.{ltb-true, lt-ltb, le-ltb}
+use borrow.Author.Tests.{ltb-true, lt-ltb, le-ltb, eq-eqb}
 use Rattle.masks.specs.Mask.{has, withBit, countOf}
 use Rattle.masks.proofs.Gather.{gather-in, gather-has, gather-took, gather-left}
 use Rattle.ranges.proofs.LeastLaws.{lowest-same}
 use Rattle.ranges.proofs.EveryLaws.{and-holds, never-both}
 use Rattle.table.specs.declared.Table.{Table}
 use Rattle.priority.specs.declared.Kinds as masked
-use Rattle.numbers.specs.Numbers.{places, timer, client}
+use Rattle.numbers.specs.Numbers.{places, editionTwo, timer, client}
 use Rattle.table.specs.Values.{kindOf}
 use Rattle.turns.specs.declared.Choice.{Choice}
 use Rattle.turns.specs.declared.Waits as split
-use Rattle.turns.specs.Choosing.{isPolled, choice, gatheredOf, pollingPoint, choose}
+use Rattle.turns.specs.Choosing.{polled, isPolled, choice, gatheredOf, pollingPoint, choose}
 use Rattle.turns.specs.Parts.{waitsOf, pollIn, chooseIn, Cached}
 use Rattle.queues.specs.Queues.{waits}
 use Rattle.priority.specs.Priority.{foremostFrom, foremost}
@@ -90,6 +92,29 @@ module _ (t : Table) (ws : List ℕ) where
         waiting = λ j q. (let a = foremost-hit t (has (gatheredOf t ws)) j q in (a .0, gathered-cached j (a .1) .1, λ p. a .1));
         some = λ k j l h. found j l (k j l) h e (isPolled t j) refl;
       }
+
+-- ---- edition 2
+
+module _ (t : Table) (two : t .edition ≡ editionTwo) where
+  pub all-polled : (i : ℕ) → isPolled t i ≡ true
+  unfolding polled
+  all-polled i = ap (λ (b : Bool). b || not (eqb (kindOf t i) timer)) (eq-eqb (t .edition) editionTwo two)
+
+  -- the chosen one is in the cache then
+  pub chosen-cached : (c : ℕ) (ws : List ℕ) → Cached t c ws → (i : ℕ) → (choose t c ws) .chosen ≡ suc i → has ((choose t c ws) .cache) i ≡ true
+  chosen-cached c ws good i e = chooses t ws c good .waiting i e .2 (all-polled i)
+
+  -- while somebody is cached there is no polling point: the first in the cache is chosen, and the cache stays
+  pub cache-first : (c : ℕ) (ws : List ℕ) → foremost t (has c) ≢ 0 → choose t c ws ≡ choice (foremost t (has c)) c false 0
+  unfolding choose unpolled
+  cache-first c ws some = go (foremost t (unpolled t ws)) refl (foremost t (has c)) some
+    where
+      go : (x : ℕ) → foremost t (unpolled t ws) ≡ x → (y : ℕ) → y ≢ 0 → chosenOf c x y (pollingPoint t (gatheredOf t ws)) ≡ choice y c false 0
+      go (suc i) e y n =
+          let a = and-holds (not (isPolled t i)) (waits ws i) (foremost-hit t (unpolled t ws) i e .1) in
+          absurd (never-both (isPolled t i) (all-polled i) (not-true (isPolled t i) (a .0)))
+      go zero e (suc i) n = refl
+      go zero e zero n = absurd (n refl)
 
 -- ---- the choice in masks
 

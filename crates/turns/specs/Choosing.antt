@@ -1,23 +1,23 @@
 -- Step 3 of a tick where nothing runs: whom it chooses, and what the cache is then.
-use mathlib.Core.Bool.{Bool, true, false, not, _&&_}
+use mathlib.Core.Bool.{Bool, true, false, not, _&&_, _||_}
 use mathlib.Core.List.{List}
 use Prim.Native.Nat.{ℕ, zero, suc}
 use lib.Dec.{eqb}
 use Rattle.masks.specs.Mask.{has, gather, countOf}
 use Rattle.table.specs.declared.Table.{Table}
 use Rattle.table.specs.Values.{kindOf}
-use Rattle.numbers.specs.Numbers.{places, timer}
+use Rattle.numbers.specs.Numbers.{places, editionTwo, timer}
 use Rattle.turns.specs.declared.Choice.{Choice}
 use Rattle.queues.specs.Queues.{waits}
 use Rattle.priority.specs.Priority.{foremost}
 
--- whether callbacks of a kind are gathered at polling points: all but timers are
-unfoldable pub polled : ℕ → Bool
-polled kind = not (eqb kind timer)
+-- whether an edition gathers callbacks of a kind at polling points: edition 2 all of them, edition 1 all but timers
+unfoldable pub polled : ℕ → ℕ → Bool
+polled edition kind = eqb edition editionTwo || not (eqb kind timer)
 
 -- the same of slot i: choice, cache and faults ask this
 abbrev pub isPolled : Table → ℕ → Bool
-isPolled t i = polled (kindOf t i)
+isPolled t i = polled (t .edition) (kindOf t i)
 
 -- whom step 3 chooses (an index, 0 for nobody), the cache then, whether it polled, and how many the poll took
 abbrev pub choice : ℕ → ℕ → Bool → ℕ → Choice

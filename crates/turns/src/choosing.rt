@@ -2,6 +2,7 @@
 
 use super::Choice;
 use super::Waits;
+use numbers::EDITION_TWO;
 use numbers::TIMER;
 use priority::Kinds;
 use priority::foremost;
@@ -14,11 +15,11 @@ ghost use Rattle.numbers.specs.Numbers.{places};
 ghost use Rattle.turns.specs.Choosing.{polled};
 ghost use Rattle.turns.specs.Parts.{waitsOf, chooseIn};
 
-// Whether callbacks of a kind are gathered at polling points.
-pub fn polled(kind: u8) -> bool
-    ensures { λ r. ⌜ r ≡ polled kind ⌝ }
+// Whether an edition gathers callbacks of a kind at polling points.
+pub fn polled(edition: u8, kind: u8) -> bool
+    ensures { λ r. ⌜ r ≡ polled edition kind ⌝ }
 {
-    kind != TIMER
+    edition == EDITION_TWO || kind != TIMER
 }
 
 // The slots of the table that wait.
@@ -33,7 +34,7 @@ pub fn waiting_slots(t: Table, waiting: [u16; 16]) -> Waits
     while i < n {
         if waiting[i as usize] > 0 {
             let c = t.callbacks[i as usize];
-            if polled(c.kind) {
+            if polled(t.edition, c.kind) {
                 gathered = masks::set_slot(gathered, i as u16);
             } else {
                 others = masks::set_slot(others, i as u16);

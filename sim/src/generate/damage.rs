@@ -1,6 +1,6 @@
 //! Tables damaged in every field, and bytes that are no table.
 
-use super::tables::{any_shape, table, Shape};
+use super::tables::{any_shape, edition, table, Shape};
 use crate::random::Random;
 use crate::table::{encode, HEADER_BYTES, MOST_CALLBACKS, MOST_ENTRIES, RECORD_BYTES};
 
@@ -49,7 +49,7 @@ fn extend(random: &mut Random, bytes: &mut Vec<u8>) {
 }
 
 /// Bytes drawn freely, often with a header's first bytes and a right length.
-fn random_bytes(random: &mut Random) -> Vec<u8> {
+pub fn random_bytes(random: &mut Random) -> Vec<u8> {
     let count = random.range(0, 3) as usize;
     let length = match random.range(0, 2) {
         0 => random.range(0, 80) as usize,
@@ -66,7 +66,7 @@ fn random_bytes(random: &mut Random) -> Vec<u8> {
         })
         .collect();
     if length >= HEADER_BYTES && random.chance(80) {
-        bytes[0] = 1;
+        bytes[0] = edition(random);
         bytes[1] = count as u8;
     }
     bytes
@@ -86,7 +86,7 @@ pub fn refused_with(random: &mut Random, number: u8) -> Vec<u8> {
     let mut bytes = encode(&base);
     match number {
         1 => bytes.truncate(random.range(0, HEADER_BYTES as u64 - 1) as usize),
-        2 => bytes[0] = *random.pick(&[0, 2, 255]),
+        2 => bytes[0] = *random.pick(&[0, 3, 255]),
         3 => bytes[1] = *random.pick(&[0, MOST_CALLBACKS as u8 + 1, 255]),
         4 => wrong_length(random, &mut bytes),
         5 => spare(random, &mut bytes),

@@ -1,5 +1,5 @@
 //! Tables with one field at the ends of its range and a step beyond them,
-//! and bytes cut short or too long.
+//! and bytes cut short or too long, in both editions.
 
 use crate::table::{
     encode, Callback, Kind, Table, HEADER_BYTES, MOST_CALLBACKS, MOST_ENTRIES, RECORD_BYTES,
@@ -21,6 +21,7 @@ fn lone(kind: Kind, entries: &[u64]) -> Callback {
 
 fn full(callbacks: Vec<Callback>) -> Table {
     Table {
+        edition: 1,
         budget: 1,
         period: 1,
         horizon: 0,
@@ -28,8 +29,8 @@ fn full(callbacks: Vec<Callback>) -> Table {
     }
 }
 
-/// Timer 1 activates subscription 2; client 3 and service 4 stand alone.
-pub fn base() -> Table {
+/// Timer 1 activates subscription 2; client 3 and service 4 stand alone. In this edition.
+pub fn base(edition: u8) -> Table {
     let mut callbacks = vec![
         lone(Kind::Timer, &[2]),
         lone(Kind::Subscription, &[3]),
@@ -39,7 +40,10 @@ pub fn base() -> Table {
     callbacks[0].next = 2;
     let follower = &mut callbacks[1];
     (follower.period, follower.jitter, follower.distance) = (0, 0, 0);
-    full(callbacks)
+    Table {
+        edition,
+        ..full(callbacks)
+    }
 }
 
 fn with_byte(bytes: &[u8], at: usize, value: u8) -> Vec<u8> {
@@ -55,23 +59,32 @@ fn with_word(bytes: &[u8], at: usize, value: u16) -> Vec<u8> {
 }
 
 pub fn edges() -> Vec<Vec<u8>> {
-    let bytes = encode(&base());
+    let base = base(1);
+    let bytes = encode(&base);
     let mut tables = vec![bytes.clone()];
     header(&bytes, &mut tables);
-    for index in 1..=base().count() {
+    for index in 1..=base.count() {
         let record = HEADER_BYTES + RECORD_BYTES * (index - 1);
         fields(&bytes, record, &mut tables);
-        if base().callback(index).entries.len() > 1 {
+        if base.callback(index).entries.len() > 1 {
             entries(&bytes, record, &mut tables);
         }
     }
     links(&mut tables);
     lengths(&bytes, &mut tables);
+    // Each table of edition 1 stands in edition 2 too.
+    let first = tables.iter().filter(|table| table.first() == Some(&1));
+    let second: Vec<Vec<u8>> = first.map(|table| with_byte(table, 0, 2)).collect();
+    tables.extend(second);
+    // An edition that is none comes behind a header cut short, and before a wrong count.
+    let neither = with_byte(&bytes, 0, 3);
+    tables.push(neither[..HEADER_BYTES - 1].to_vec());
+    tables.extend([0, 17].map(|count| with_byte(&neither, 1, count)));
     tables
 }
 
 fn header(bytes: &[u8], tables: &mut Vec<Vec<u8>>) {
-    tables.extend([0, 2, 255].map(|edition| with_byte(bytes, 0, edition)));
+    tables.extend([0, 3, 255].map(|edition| with_byte(bytes, 0, edition)));
     tables.extend([0, 1, 3, 5, 16, 17, 255].map(|count| with_byte(bytes, 1, count)));
     for value in ENDS {
         tables.push(with_word(bytes, 2, value));

@@ -230,8 +230,8 @@ fn offer(mask: u16, supplied: u8, cost: u64) -> (Tick, u8) {
 
 /// A history of the table of four callbacks in `edges`, with every answer
 /// and each refusal from 19 to 21: both ends of the cost, a follower's bit and
-/// bits of no callback, a full head and a full follower.
-pub fn covering() -> Vec<(Tick, u8)> {
+/// bits of no callback, then what its edition has.
+pub fn covering(edition: u8) -> Vec<(Tick, u8)> {
     let mut offers = vec![offer(0, 1, 1), offer(0, 0, 60_000), offer(0, 255, 60_000)];
     for cost in [0, 60_001, 65_536, 65_537, 125_536, u64::from(u32::MAX)] {
         offers.push(offer(0, 1, cost));
@@ -241,6 +241,15 @@ pub fn covering() -> Vec<(Tick, u8)> {
         offers.push(offer(mask, 1, 1));
         offers.push(offer(mask, 0, 1));
     }
+    match edition {
+        1 => timers_first(&mut offers),
+        _ => timers_polled(&mut offers),
+    }
+    offers
+}
+
+/// Edition 1: a timer that keeps all others waiting, a full head and a full follower.
+fn timers_first(offers: &mut Vec<(Tick, u8)>) {
     // All heads at once, run to idleness.
     offers.push(offer(13, 1, 3));
     offers.extend([offer(0, 1, 3); 14]);
@@ -255,5 +264,25 @@ pub fn covering() -> Vec<(Tick, u8)> {
     offers.push(offer(5, 1, 1));
     // Nothing arrives: first 21 for the follower, for ever.
     offers.extend([offer(0, 1, 1); 4]);
-    offers
+}
+
+/// Edition 2: a timer that waits behind the cache, a poll of all four, full heads. (a follower does
+/// not fill up: a poll takes its head and, from the next one on, the follower)
+fn timers_polled(offers: &mut Vec<(Tick, u8)>) {
+    // A poll of timer 1 alone, whose follower 2 is in the next poll, with all four.
+    offers.extend([offer(1, 1, 1), offer(13, 1, 2), offer(0, 1, 1)]);
+    // The timer beats, 2, 4 and 3 being cached: before 2 starts, while it runs, and in the tick in
+    // which 3 is chosen.
+    offers.extend([offer(1, 0, 1), offer(0, 1, 3), offer(1, 1, 1)]);
+    offers.extend([offer(0, 1, 1), offer(0, 1, 1), offer(1, 1, 1)]);
+    // The next polls, down to idleness.
+    offers.extend([offer(0, 1, 1); 9]);
+    // Client 3 and the timer fill up, and are full in an unsupplied and in a supplied tick.
+    offers.extend([offer(4, 0, 1); 256]);
+    offers.push(offer(12, 1, 1));
+    offers.extend([offer(1, 0, 1); 256]);
+    offers.extend([offer(5, 1, 1), offer(1, 1, 1)]);
+    // The timer runs once a poll, and has room for one beat after each run.
+    offers.extend([offer(0, 1, 1), offer(1, 1, 1), offer(1, 1, 1)].repeat(4));
+    offers.extend([offer(0, 1, 1); 9]);
 }

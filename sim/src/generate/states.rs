@@ -1,7 +1,7 @@
 //! States written at will, sound or with one fault.
 
 use super::damage::damaged;
-use crate::machine::{bit, start, State, MOST_TICKS};
+use crate::machine::{bit, gathers, start, State, MOST_TICKS};
 use crate::random::Random;
 use crate::table::{encode, Kind, Table, LARGEST, MOST_CALLBACKS};
 use crate::text::Change;
@@ -18,17 +18,22 @@ pub fn sound(random: &mut Random, table: &Table) -> State {
             state.waiting[index - 1] = *random.pick(&[1, 2, 254, 255, 255]);
         }
     }
-    let timer = |index: usize| table.callback(index).kind == Kind::Timer;
+    let gathered = |index: usize| gathers(table.edition, table.callback(index).kind);
     let caching = *random.pick(&[0, 50, 100]);
     for &index in &waits {
-        if !timer(index) && random.chance(caching) {
+        if gathered(index) && random.chance(caching) {
             state.cache |= bit(index);
         }
     }
-    let able = |&index: &usize| timer(index) || state.cached(index);
-    let able: Vec<usize> = waits.iter().copied().filter(able).collect();
+    let able = |&index: &usize| !gathered(index) || state.cached(index);
+    let mut able: Vec<usize> = waits.iter().copied().filter(able).collect();
     if !able.is_empty() && random.chance(60) {
         state.running = *random.pick(&able);
+        if table.edition == 2 && random.chance(50) {
+            // What step 3 would choose, often a timer.
+            able.sort_by_key(|&index| table.callback(index).kind);
+            state.running = able[0];
+        }
         state.units = *random.pick(&[1, 1, 2, LARGEST]);
     }
     state
@@ -39,7 +44,11 @@ pub fn spoil(random: &mut Random, table: &Table, state: &mut State) {
     let place = random.range(0, table.count() as u64 - 1) as usize;
     let beyond = random.range(table.count() as u64, MOST_CALLBACKS as u64) as usize;
     let last = beyond.min(MOST_CALLBACKS - 1);
+    // For edition 1 every draw stays what it was before there was another.
+    let second = table.edition == 2;
     match random.range(0, 11) {
+        0 if second && random.chance(50) => state.table[0] = 1,
+        9 if second && random.chance(50) => run_uncached(random, table, state),
         0 => state.table = damaged(random),
         1 => state.running = beyond + 1,
         2 => state.cache |= 1 << last,
@@ -52,6 +61,19 @@ pub fn spoil(random: &mut Random, table: &Table, state: &mut State) {
         9 => state.running = place + 1,
         10 => state.running = 0,
         _ => state.units = *random.pick(&[0, 1, LARGEST + 1]),
+    }
+}
+
+/// Lets a timer, if there is one, run outside the cache: wrong in edition 2 alone, and else in order.
+fn run_uncached(random: &mut Random, table: &Table, state: &mut State) {
+    let timer = |&index: &usize| table.callback(index).kind == Kind::Timer;
+    let timers: Vec<usize> = (1..=table.count()).filter(timer).collect();
+    if !timers.is_empty() {
+        let index = *random.pick(&timers);
+        let waiting = &mut state.waiting[index - 1];
+        *waiting = (*waiting).max(1);
+        state.cache &= !bit(index);
+        (state.running, state.units) = (index, 1);
     }
 }
 

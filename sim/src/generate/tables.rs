@@ -54,6 +54,7 @@ fn loaded(random: &mut Random, largest_cost: u64, largest_period: u64) -> Table 
     link(random, &mut callbacks);
     let (budget, period) = reservation(random, largest_period);
     let mut table = Table {
+        edition: edition(random),
         budget,
         period,
         horizon: horizon(random),
@@ -61,6 +62,15 @@ fn loaded(random: &mut Random, largest_cost: u64, largest_period: u64) -> Table 
     };
     load(random, &mut table);
     table
+}
+
+/// One of the two editions. Beside it a seed draws what it drew when there was only one.
+pub fn edition(random: &Random) -> u8 {
+    if random.coin() {
+        2
+    } else {
+        1
+    }
 }
 
 fn kind(random: &mut Random) -> Kind {
@@ -170,6 +180,7 @@ fn extreme(random: &mut Random) -> Table {
     let period = end(random);
     let budget = *random.pick(&[1, period.div_ceil(2), period.max(2) - 1, period]);
     let mut table = Table {
+        edition: edition(random),
         budget,
         period,
         horizon: 0,

@@ -34,6 +34,7 @@ pub fn follower(kind: Kind, entries: &[u64]) -> Callback {
 
 pub fn supplied(budget: u64, period: u64, callbacks: Vec<Callback>) -> Table {
     Table {
+        edition: 1,
         budget,
         period,
         horizon: 0,
@@ -44,6 +45,14 @@ pub fn supplied(budget: u64, period: u64, callbacks: Vec<Callback>) -> Table {
 /// A table with full supply, Q and P being 1 (document 01, 'Reckoned by hand').
 pub fn full(callbacks: Vec<Callback>) -> Table {
     supplied(1, 1, callbacks)
+}
+
+/// The same table in this edition.
+pub fn in_edition(edition: u8, table: &Table) -> Table {
+    Table {
+        edition,
+        ..table.clone()
+    }
 }
 
 /// Timer 1 activates subscription 2, which activates client 3.

@@ -6,7 +6,7 @@ use crate::layout::{pack, LENGTH};
 use sim::generate::damage::{damaged, refused_with, NUMBERS};
 use sim::generate::histories::{outside, within, Style};
 use sim::generate::states::{sound, spoil};
-use sim::generate::tables::{any_shape, table, Shape};
+use sim::generate::tables::{any_shape, edition, table, Shape};
 use sim::history::conclusions;
 use sim::machine::{bit, Tick};
 use sim::random::Random;
@@ -126,6 +126,7 @@ fn longest_window(comparison: &mut Comparison, random: &mut Random) -> Outcome {
         distance: random.range(1, LARGEST),
     };
     let bytes = encode(&Table {
+        edition: edition(random),
         budget: 1,
         period: 1,
         horizon: 0,

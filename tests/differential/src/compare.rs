@@ -2,7 +2,7 @@
 //! guards compared, and what was compared counted.
 
 use crate::fence::Fence;
-use crate::layout::{pack, unpack, LENGTH};
+use crate::layout::{pack, unpack, CACHE, LENGTH};
 use library::{
     cuorfelt_analyse, cuorfelt_read, cuorfelt_start, cuorfelt_tick, Refusal, Reply, Sheet,
 };
@@ -29,6 +29,8 @@ pub struct Totals {
     pub accepted: u64,
     pub histories: u64,
     pub ticks: u64,
+    /// Ticks, of all that were taken, on a state of edition 2 with something cached.
+    pub second: u64,
     pub damaged: u64,
     pub lengths: u64,
     /// By function, then by number: how often it was refused so.
@@ -223,6 +225,8 @@ impl Comparison {
         let got =
             unsafe { cuorfelt_tick(state, lent.len(), offer.mask, offer.supplied, offer.cost) };
         self.count(Function::Tick, got.number);
+        let cached = |bytes: &[u8]| bytes[CACHE] | bytes[CACHE + 1] != 0;
+        self.totals.second += u64::from(got.number == 0 && lent[0] == 2 && cached(lent));
         same("reply", got, wanted)
             .and_then(|()| same_all("state", self.state.bytes(), &after))
             .and_then(|()| kept("state", &self.state))

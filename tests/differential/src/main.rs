@@ -20,6 +20,7 @@ const GATE: std::ops::Range<u64> = 1..211;
 /// What a gate run must have compared.
 const LEAST_TABLES: u64 = 20_000;
 const LEAST_TICKS: u64 = 1_000_000;
+const LEAST_SECOND: u64 = 200_000;
 
 fn main() {
     let words: Vec<String> = std::env::args().skip(1).collect();
@@ -72,7 +73,8 @@ fn gate() -> Outcome {
 
 /// Whether a gate run was large enough and met every refusal.
 fn complete(totals: &Totals) -> Outcome {
-    if totals.tables < LEAST_TABLES || totals.ticks < LEAST_TICKS {
+    let many = totals.tables >= LEAST_TABLES && totals.ticks >= LEAST_TICKS;
+    if !many || totals.second < LEAST_SECOND {
         return Err(format!("too few compared: {}", summary(totals)));
     }
     let numbers = [
@@ -95,10 +97,11 @@ fn complete(totals: &Totals) -> Outcome {
 
 fn summary(totals: &Totals) -> String {
     format!(
-        "{} tables ({} with a sheet), {} ticks, {} histories, {} damaged states, {} wrong lengths",
+        "{} tables ({} with a sheet), {} ticks ({} on a cache of edition 2), {} histories, {} damaged states, {} wrong lengths",
         totals.tables,
         totals.accepted,
         totals.ticks,
+        totals.second,
         totals.histories,
         totals.damaged,
         totals.lengths

@@ -7,28 +7,23 @@ use borrow.Author.Needs.{needs}
 use Rattle.histories.proofs.read_start.Statement.{statement}
 use Rattle.histories.proofs.read_start.Tie as tie
 
-slice-aggregate-read-full-2 : tie.Need-slice-aggregate-read-full-2
-slice-aggregate-read-full-2 c = sym (length-take-le _ _ (omega (arith, c .before .before .get-u16 .ok, c .before .large-buffer .ensures)))
+slice-aggregate-read-full : tie.Need-slice-aggregate-read-full
+slice-aggregate-read-full c = sym (length-take-le _ _ (omega (arith, c .before .large-buffer .ensures)))
 
 array-share-prefix-bytes : tie.Need-array-share-prefix-bytes
-array-share-prefix-bytes c = simp length-append (omega (arith, c .before .read-full2 .ensures .0))
+array-share-prefix-bytes c = simp length-append (omega (arith, c .before .read-full .ensures .0))
 
 slice-aggregate-start : tie.Need-slice-aggregate-start
 slice-aggregate-start c =
-    sym (length-take-le _ _ (simp length-append (omega (arith, c .before .before .read-full2 .ensures .0))))
+    sym (length-take-le _ _ (simp length-append (omega (arith, c .before .before .read-full .ensures .0))))
 
 pub read-start-spec : {M : Type 1} → statement M
 read-start-spec =
     tie.close
     (tie.spec
-    (λ c. search needs)
     (λ c κs. search needs)
     (λ c. search needs)
-    (λ c κs. search needs)
-    (λ c. search needs)
-    (λ c κs. search needs)
-    (λ c. search needs)
-    slice-aggregate-read-full-2
+    slice-aggregate-read-full
     (λ c κs. search needs)
     array-share-prefix-bytes
     slice-aggregate-start
