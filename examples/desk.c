@@ -6,7 +6,7 @@
  * line, then one tick a line, MASK SUPPLIED COST, in decimal; empty lines and lines that begin with # say nothing.
  * Prints `window W` and a line `INDEX BOUND` for each callback, or `refused NUMBER INDEX`; then `start accepted` or
  * `start refused NUMBER INDEX`, and a line for each tick T: `T ANSWER CALLBACK INSTANCE STARTED POLLED GATHERED`, or
- * `T refused NUMBER INDEX`. What stands behind a # is the same in words: names, chains, the reason of a refusal.
+ * `T refused NUMBER INDEX`. What stands behind a # is the same in words: names, chains, the edition, the reason of a refusal.
  * Ends with 0; with 1 where the table, the start or a tick was refused; with 2 where a file cannot be read or the output not be written. */
 #include "cuorfelt.h"
 #include "cuorfelt_text.h"
@@ -225,7 +225,8 @@ static void run_history(const char *name, table of)
         printf("start refused");
         print_refusal(refusal);
     } else {
-        printf("start accepted\n");
+        printf("start accepted # edition %d: timers %s\n", of.bytes[0],
+               of.bytes[0] == CUORFELT_EDITION_TWO ? "wait for a polling point" : "overtake");
         run_ticks(name, file, state, length);
     }
     free(state);

@@ -104,32 +104,48 @@ fn ticks<R>(state: &[u8], offers: &[Offer], tick: impl Fn(&mut [u8], Offer) -> R
 /// All that is timed, from fixed seeds.
 pub fn all() -> Vec<Work> {
     let mut random = Random::new(7);
+    let mut works = analyses(&mut random);
+    works.extend(histories(&mut random));
+    works.extend(repeated());
+    works
+}
+
+fn analyses(random: &mut Random) -> Vec<Work> {
     let desk = include_bytes!("../../examples/desk.table").to_vec();
     let short = |window, _: &Table| (1..=100).contains(&window);
     let long = |window, _: &Table| (2_000..=20_000).contains(&window);
     let unsettled = |window, table: &Table| window == 0 && table.count() >= 8 && table.horizon == 0;
-    let mut works = vec![
+    vec![
         Work::sheets("the desk of docs/GUIDE.md", vec![desk]),
-        Work::sheets(
-            "windows up to 100",
-            drawn(&mut random, 200, Shape::Small, short),
-        ),
+        Work::sheets("windows up to 100", drawn(random, 200, Shape::Small, short)),
         Work::sheets(
             "windows of 2,000 to 20,000",
-            drawn(&mut random, 12, Shape::Long, long),
+            drawn(random, 12, Shape::Long, long),
         ),
         Work::sheets(
             "no window up to 60,000",
-            drawn(&mut random, 4, Shape::Small, unsettled),
+            drawn(random, 4, Shape::Small, unsettled),
         ),
         Work::sheets("16 callbacks, window 59,984", vec![encode(&longest())]),
-        desk_history(),
-        busy_history(&mut random),
-        chain_history(&mut random),
-        lone_history(&mut random),
-    ];
-    works.extend(repeated());
-    works
+    ]
+}
+
+fn histories(random: &mut Random) -> Vec<Work> {
+    let desk = include_str!("../../examples/desk.history");
+    let second_desk = include_str!("../../examples/desk2.history");
+    let busy = busy(random);
+    let second = Table {
+        edition: 2,
+        ..busy.clone()
+    };
+    vec![
+        desk_history("the desk of docs/GUIDE.md", desk),
+        greedy_history("16 callbacks, greedy", random, &busy),
+        chain_history(random),
+        lone_history(random),
+        desk_history("the desk in edition 2", second_desk),
+        greedy_history("16 callbacks in edition 2, greedy", random, &second),
+    ]
 }
 
 /// Tables whose window, 0 for none, is as wanted.
@@ -178,16 +194,16 @@ fn offered(tick: &Tick) -> Offer {
     (tick.mask, tick.supplied.into(), tick.cost as u32)
 }
 
-/// The recorded history of the desk.
-fn desk_history() -> Work {
-    let script = script(include_str!("../../examples/desk.history")).expect("a history");
+/// A recorded history of the desk.
+fn desk_history(name: &str, text: &str) -> Work {
+    let script = script(text).expect("a history");
     let tick = |line: &Line| match line {
         Line::Tick(tick) => offered(tick),
         Line::Set(_) => unreachable!("a recorded history writes nothing"),
     };
     let state = packed(&start(&script.table).state);
     let offers = script.lines.iter().map(tick).collect();
-    Work::ticks("the desk of docs/GUIDE.md", state, offers)
+    Work::ticks(name, state, offers)
 }
 
 /// Ticks that press as hard as the curves permit.
@@ -197,16 +213,18 @@ fn greedy_history(name: &str, random: &mut Random, table: &Table) -> Work {
     Work::ticks(name, packed(&start(&encode(table)).state), offers)
 }
 
-/// Sixteen drawn callbacks.
-fn busy_history(random: &mut Random) -> Work {
-    let table = loop {
+/// Sixteen drawn callbacks, in edition 1.
+fn busy(random: &mut Random) -> Table {
+    loop {
         let table = table(random, Shape::Small);
         let taken = analyse(&encode(&table), &mut [0; PLACES]).is_ok();
         if taken && table.count() == 16 {
-            break table;
+            return Table {
+                edition: 1,
+                ..table
+            };
         }
-    };
-    greedy_history("16 callbacks, greedy", random, &table)
+    }
 }
 
 /// One chain of sixteen, whose head is the last callback: the longest walk along next.
