@@ -28,7 +28,8 @@ static inline cuorfelt_words cuorfelt_text(unsigned number, unsigned index)
     case CUORFELT_SHORT_HEADER:
         return cuorfelt_words_of("the table has fewer than 16 bytes", "write the whole header; look whether the file was cut");
     case CUORFELT_UNKNOWN_EDITION:
-        return cuorfelt_words_of("the edition is not 1 or 2", "write 1 or 2 into byte 0; look whether the file is a table");
+        return cuorfelt_words_of("the edition is not 1 or 2",
+                                 "write the desk's edition, 1 or 2, into byte 0; look whether the file is a table, or one for a later version");
     case CUORFELT_WRONG_COUNT:
         return cuorfelt_words_of("n is not 1 to 16", "declare one callback at least; beyond sixteen, join some or give them to another thread");
     case CUORFELT_WRONG_LENGTH:

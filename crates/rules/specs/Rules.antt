@@ -15,7 +15,7 @@ use Rattle.table.specs.declared.Table.{Table}
 use Rattle.table.specs.Values.{refuse, accepted, orElse, callbackAt}
 use Rattle.link_rules.specs.LinkRules.{linksFault}
 
--- 2, then 3: edition and count
+-- 2, then 3: edition (1, or by U1 of document 02 also 2) and count
 unfoldable pub headFault : ℕ → ℕ → Refusal
 headFault edition count =
     cond (not (within Numbers.editionOne Numbers.editionTwo edition)) (refuse Numbers.unknownEdition 0)

@@ -11,7 +11,7 @@ use Rattle.turns.specs.declared.Choice.{Choice}
 use Rattle.queues.specs.Queues.{waits}
 use Rattle.priority.specs.Priority.{foremost}
 
--- whether an edition gathers callbacks of a kind at polling points: edition 2 all of them, edition 1 all but timers
+-- whether an edition gathers callbacks of a kind at polling points: edition 1 all but timers (step 3), edition 2 all of them (document 02, U1)
 unfoldable pub polled : ℕ → ℕ → Bool
 polled edition kind = eqb edition editionTwo || not (eqb kind timer)
 

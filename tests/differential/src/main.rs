@@ -77,10 +77,11 @@ fn complete(totals: &Totals) -> Outcome {
     if !many || totals.second < LEAST_SECOND {
         return Err(format!("too few compared: {}", summary(totals)));
     }
+    let read: Vec<usize> = (0..=14).collect();
     let numbers = [
-        (Function::Read, (0..=14).collect::<Vec<usize>>()),
-        (Function::Analyse, (0..=17).collect()),
-        (Function::Start, (0..=14).chain([29]).collect()),
+        (Function::Analyse, [&read[..], &[15, 16, 17]].concat()),
+        (Function::Start, [&read[..], &[29]].concat()),
+        (Function::Read, read),
         (
             Function::Tick,
             [0].into_iter().chain(18..=21).chain([29]).collect(),
