@@ -66,10 +66,10 @@ pub record Computed (c : Case) : Type 0 where
   pub short : T (leb (length (c .ticks)) mostTicks)
   -- the slot is one of the table; the activation is there, and its bound is over before the history is
   pub known : T (ltb (c .slot) ((tableAt (c .bytes)) .count))
-  pub activated : activation (tableAt (c .bytes)) (c .ticks) (c .says) (headOf (tableAt (c .bytes)) (c .slot)) (c .count) (c .activated)
+  pub activated : activation (tableAt (c .bytes)) (c .ticks) (c .says) (headOf (tableAt (c .bytes)) (c .slot)) (c .nth) (c .activated)
   pub reached : T (leb (due c) (length (c .ticks)))
   -- the completion comes at the bound
-  pub meets : completion (c .says) (c .slot) (c .count) (due c)
+  pub meets : completion (c .says) (c .slot) (c .nth) (due c)
 
 -- all of it by computation, of both
 pub computed : Computed one × Computed two
@@ -88,8 +88,8 @@ module _ (c : Case) (k : Computed c) where
       (guarantee (c .bytes) lent (c .ticks) (k .accepted) (leb-true _ _ (holds _ (k .short)))) (decided (tableAt (c .bytes)) (c .ticks) (c .says) (k .within)))
 
   -- so the completion is there by the time that the bound is over
-  pub in-time : (t : ℕ) × (t ≤ due c) × completion (c .says) (c .slot) (c .count) t
-  in-time = guaranteed .finished (c .slot) (c .count) (c .activated) (ltb-true _ _ (holds _ (k .known))) (k .activated) (leb-true _ _ (holds _ (k .reached)))
+  pub in-time : (t : ℕ) × (t ≤ due c) × completion (c .says) (c .slot) (c .nth) t
+  in-time = guaranteed .finished (c .slot) (c .nth) (c .activated) (ltb-true _ _ (holds _ (k .known))) (k .activated) (leb-true _ _ (holds _ (k .reached)))
 
 -- edition 1: the service's first completion is there at 13 or earlier, and it is at 13
 pub in-time-one : (t : ℕ) × (t ≤ 13) × completion (one .says) 2 1 t

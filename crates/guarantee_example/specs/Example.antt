@@ -20,7 +20,7 @@ pub record Case : Type 0 where
   pub row : List ℕ
   -- the slot whose bound is met, by which of its completions, and the time of that activation of its chain's head
   pub slot : ℕ
-  pub count : ℕ
+  pub nth : ℕ
   pub activated : ℕ
 
 -- a record of 32 bytes with two entries at most, all numbers below 256
@@ -78,7 +78,7 @@ one = record {
       ∷ [];
   row = 8 ∷ 11 ∷ 11 ∷ replicate 13 0;
   slot = 2;
-  count = 1;
+  nth = 1;
   activated = 2;
 }
 
@@ -96,6 +96,6 @@ two = record {
       ∷ [];
   row = 6 ∷ 9 ∷ 9 ∷ replicate 13 0;
   slot = 0;
-  count = 2;
+  nth = 2;
   activated = 3;
 }
