@@ -17,7 +17,7 @@ use borrow.Author.Tests.{not-false, eqb-true, le-ltb, eq-eqb}
 use Rattle.ranges.proofs.SumLaws.{le-or-lt}
 use Rattle.numbers.specs.Numbers.{places, headerLength, wrongLength}
 use Rattle.masks.proofs.Gather.{gather-in}
-use Rattle.lent.specs.Bytes.{zeros, numbers, fieldsAt}
+use Rattle.lent.specs.Bytes.{numbers, fieldsAt}
 use Rattle.table.specs.declared.Refusal.{Refusal}
 use Rattle.table.specs.Values.{accepted, blank, vacant, callbackAt}
 use Rattle.table.proofs.RefusalLaws.{first-passed, both-passed}
@@ -26,7 +26,7 @@ use Rattle.rules.specs.Parts.{Sound}
 use Rattle.rules.proofs.Passed.{test-zero, HeadPassed, head-passed, BodyPassed, body-passed, body-accepted, fault-accepted}
 use Rattle.rules.proofs.Sound.{sound}
 use Rattle.reader.specs.declared.Reading.{Reading}
-use Rattle.reader.specs.Format.{recordAt, spareAt, recordStart, recordsTo, tableAt, sparesAt, wholeFault, readFault, refusedReading, readOf}
+use Rattle.reader.specs.Format.{headerClear, recordAt, spareAt, recordStart, recordsTo, tableAt, sparesAt, wholeFault, readFault, refusedReading, readOf}
 use Rattle.reader.proofs.FormatLaws.{read-short, reading-refused, reading-whole}
 
 -- ---- the places
@@ -70,7 +70,7 @@ module _ (b : List ℕ) where
     pub head-zero : (headFault (getD b 0 0) (getD b 1 0)) .number ≡ 0
     pub head : HeadPassed (getD b 0 0) (getD b 1 0)
     pub fits : length b ≡ recordStart (getD b 1 0)
-    pub body : BodyPassed (not (zeros b 8 8)) (sparesAt b) (tableAt b)
+    pub body : BodyPassed (not (headerClear b)) (sparesAt b) (tableAt b)
 
   module _ (ok : (readFault b) .number ≡ 0) where
     pub read-passed : ReadPassed
@@ -83,7 +83,7 @@ module _ (b : List ℕ) where
           head-zero = two .0;
           head = head-passed (getD b 0 0) (getD b 1 0) (two .0);
           fits = eqb-true (length b) (recordStart (getD b 1 0)) (not-false _ (three .0));
-          body = body-passed (not (zeros b 8 8)) (sparesAt b) (tableAt b) (three .1);
+          body = body-passed (not (headerClear b)) (sparesAt b) (tableAt b) (three .1);
         }
       where
         long : headerLength ≤ length b
@@ -104,14 +104,14 @@ module _ (b : List ℕ) where
     read-zero =
         let p = read-passed in
         rw (le-ltb (length b) headerLength (p .long), readFault)
-        (first-passed _ _ (p .head-zero) ∙ rw (eq-eqb (length b) (recordStart (getD b 1 0)) (p .fits)) (body-accepted (not (zeros b 8 8)) (sparesAt b) (tableAt b) (p .body)))
+        (first-passed _ _ (p .head-zero) ∙ rw (eq-eqb (length b) (recordStart (getD b 1 0)) (p .fits)) (body-accepted (not (headerClear b)) (sparesAt b) (tableAt b) (p .body)))
 
     pub read-table : (readOf b) .table ≡ tableAt b
     read-table = ap (λ (r : Reading). r .table) (reading-whole b accepted read-zero refl)
 
     pub read-accepted : faultOf (tableAt b) ≡ accepted
     unfolding tableAt fieldsAt numbers
-    read-accepted = fault-accepted (tableAt b) (not (zeros b 8 8)) (sparesAt b) (read-passed .head-zero) (read-passed .body)
+    read-accepted = fault-accepted (tableAt b) (not (headerClear b)) (sparesAt b) (read-passed .head-zero) (read-passed .body)
 
     pub read-sound : Sound (tableAt b)
     read-sound = sound (tableAt b) (ap (λ (r : Refusal). r .number) read-accepted)

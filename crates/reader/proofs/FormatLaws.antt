@@ -20,7 +20,7 @@ use Rattle.table.specs.Values.{refuse, tableOf, withCallbacks, headless}
 use Rattle.table.proofs.RefusalLaws.{first-refused, first-passed}
 use Rattle.rules.specs.Rules.{headFault, bodyFault}
 use Rattle.reader.specs.declared.Reading.{Reading}
-use Rattle.reader.specs.Format.{recordAt, spareAt, recordStart, recordsTo, tableAt, sparesAt, wholeFault, readFault, refusedReading, readOf}
+use Rattle.reader.specs.Format.{headerClear, recordAt, spareAt, recordStart, recordsTo, tableAt, sparesAt, wholeFault, readFault, refusedReading, readOf}
 
 -- ---- spare bytes, as runs that end before byte k + 4, k + 12 and k + 32
 
@@ -81,7 +81,7 @@ module _ (b : List ℕ) where
       unfolding wholeFault
       read-off h = rest ∙ rw (ne-eqb (length b) (recordStart (getD b 1 0)) h)
 
-      pub read-whole : length b ≡ recordStart (getD b 1 0) → (z : Bool) → z ≡ zeros b 8 8 → (s : ℕ) → s ≡ sparesAt b → (t : Table) → t ≡ tableAt b
+      pub read-whole : length b ≡ recordStart (getD b 1 0) → (z : Bool) → z ≡ headerClear b → (s : ℕ) → s ≡ sparesAt b → (t : Table) → t ≡ tableAt b
           → readFault b ≡ bodyFault (not z) s t
       unfolding wholeFault
       read-whole e z clear s spares t values = rest ∙ rw (clear, spares, values, eq-eqb (length b) (recordStart (getD b 1 0)) e)

@@ -28,7 +28,7 @@ use Rattle.rules.specs.Rules.{faultOf}
 use Rattle.rules.specs.Parts.{Sound}
 use Rattle.rules.proofs.Passed.{head-accepted, body-accepted, fault-passed}
 use Rattle.rules.proofs.Sound.{sound, ticks-le, entries-le}
-use Rattle.reader.specs.Format.{headerFields, recordFields, fieldOf, recordAt, spareAt, recordStart, recordsTo, tableAt, sparesAt, wholeFault, readFault}
+use Rattle.reader.specs.Format.{headerFields, recordFields, fieldOf, headerClear, recordAt, spareAt, recordStart, recordsTo, tableAt, sparesAt, wholeFault, readFault}
 use Rattle.reader.specs.Written.{headerNumbers, recordNumbers, recordBytes, recordsBytes, written}
 use Rattle.reader.proofs.Accepted.{records-length, records-in, records-out, read-passed, read-spare, read-accepted, read-record, read-blank}
 
@@ -41,7 +41,7 @@ pub record Writable (t : Table) : Type 0 where
 
 -- bytes that hold a table without faults, and nothing else, are accepted
 accepted-by : (t : Table) → (faultOf t) .number ≡ 0 → (b : List ℕ) → length b ≡ recordStart (t .count) → getD b 0 0 ≡ t .edition → getD b 1 0 ≡ t .count
-    → zeros b 8 8 ≡ true → sparesAt b ≡ 0 → tableAt b ≡ t → readFault b ≡ accepted
+    → headerClear b ≡ true → sparesAt b ≡ 0 → tableAt b ≡ t → readFault b ≡ accepted
 unfolding readFault wholeFault
 accepted-by t ok b n e k z s v =
     let p = fault-passed t ok in
@@ -197,7 +197,7 @@ module _ (t : Table) (w : Writable t) where
     unfolding sparesAt
     spares-none = ap (gather (λ i. spareAt b (recordStart i))) count-back ∙ gather-none (λ i. spareAt b (recordStart i)) (t .count) slot-spare
 
-    header-spare : zeros b 8 8 ≡ true
+    header-spare : headerClear b ≡ true
     unfolding fieldsAt
     header-spare = numbers-zeros b 0 8 8 (ap (λ (vs : List (List ℕ)). fieldOf vs 2) fields-header)
 

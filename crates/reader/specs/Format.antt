@@ -1,6 +1,6 @@
 -- A table's bytes and the reader (document 01, 'The callback table' and 'Where each refusal is tested').
 -- headerFields, recordFields: the fields of a header and of a record in their order. recordAt, tableAt: the values that bytes hold.
--- spareAt, sparesAt: spare bytes that are not zero. readFault, readOf: the reader.
+-- headerClear: the header's spare bytes are zero. spareAt, sparesAt: records with one that is not. readFault, readOf: the reader.
 use mathlib.Core.Bool.{Bool, true, false, cond, not, _&&_}
 use mathlib.Core.List.{List, [], _∷_}
 use Prim.Native.Nat.{ℕ, zero, suc, _+_, _*_}
@@ -36,6 +36,10 @@ recordAt b k = let vs : List (List ℕ) = fieldsAt recordFields b k 0 in callbac
 unfoldable pub spareAt : List ℕ → ℕ → Bool
 spareAt b k = not (zeros b (k + 3) 1 && (zeros b (k + 10) 2 && zeros b (k + 28) 4))
 
+-- whether the header's spare bytes are zero
+abbrev pub headerClear : List ℕ → Bool
+headerClear b = zeros b 8 8
+
 -- where the record of a slot begins
 abbrev pub recordStart : ℕ → ℕ
 recordStart i = headerLength + recordLength * i
@@ -56,7 +60,7 @@ sparesAt b = gather (λ i. spareAt b (recordStart i)) (getD b 1 0)
 -- 4, then 5 to 14
 unfoldable pub wholeFault : List ℕ → Refusal
 wholeFault b =
-    cond (not (eqb (length b) (recordStart (getD b 1 0)))) (refuse wrongLength 0) (bodyFault (not (zeros b 8 8)) (sparesAt b) (tableAt b))
+    cond (not (eqb (length b) (recordStart (getD b 1 0)))) (refuse wrongLength 0) (bodyFault (not (headerClear b)) (sparesAt b) (tableAt b))
 
 -- the refusal of a table's bytes, 1 to 14 in their order
 unfoldable pub readFault : List ℕ → Refusal
