@@ -6,9 +6,10 @@ use table::Table;
 ghost use mathlib.Core.Path.{_≡_};
 ghost use Prim.Native.Nat.{ℕ, _<_, _≤_, _*_, _-_, max};
 ghost use Rattle.numbers.specs.Numbers.{places, longest};
+ghost use Rattle.curves.specs.Parts.{maxLength};
 ghost use Rattle.table.specs.Values.{horizonOf};
 ghost use Rattle.rules.specs.Parts.{Sound};
-ghost use Rattle.windows.specs.Bounds.{windowOf, boundOf};
+ghost use Rattle.windows.specs.Bounds.{supplyOf, windowOf, boundOf};
 ghost use Rattle.windows.specs.Parts.{mostWork, headArrivals, workOf, demandBut, Spaced, Costed, Headed};
 
 // The head of each slot's chain, for the slots below count.
@@ -69,6 +70,14 @@ fn demand_but(t: Table, heads: [u8; 16], x: usize, length: u32) -> u64
     sum
 }
 
+// The supply of a table in a window of `length` ticks.
+fn supply(t: Table, length: u32) -> u64
+    requires { ⌜ Sound t × (length ≤ maxLength) ⌝ }
+    ensures { λ r. ⌜ r ≡ supplyOf t length ⌝ }
+{
+    curves::supply(t.budget as u32, t.period as u32, length)
+}
+
 // W: the least length in 1 to the horizon whose supply covers the demand of all callbacks; 0 where there is none.
 pub fn window(t: Table, heads: [u8; 16], horizon: u32) -> u32
     requires { ⌜ Headed t heads × (horizon ≡ horizonOf t) × (horizon ≤ longest) ⌝ }
@@ -78,7 +87,7 @@ pub fn window(t: Table, heads: [u8; 16], horizon: u32) -> u32
     let mut length: u32 = 1;
     while length <= horizon {
         let demand = demand_but(t, heads, n, length);
-        if demand <= curves::supply(t.budget as u32, t.period as u32, length) {
+        if demand <= supply(t, length) {
             return length;
         }
         length += 1;
@@ -115,7 +124,7 @@ pub fn bound(t: Table, heads: [u8; 16], x: usize, window: u32) -> u32
     while offset < window {
         let own = work(c, g, offset + 1);
         let finish = loop {
-            if own + others <= curves::supply(t.budget as u32, t.period as u32, length) {
+            if own + others <= supply(t, length) {
                 break length;
             }
             length += 1;

@@ -13,7 +13,7 @@ use Rattle.windows.proofs.PartLaws.{head-within, head-spaced, work-of}
 use Rattle.windows.proofs.SearchLaws.{finish-in, finish-hit, finish-miss, finish-next, bound-is, bound-in}
 use Rattle.windows.proofs.bound.Statement.{statement}
 use Rattle.windows.proofs.bound.Tie as tie
-use Rattle.windows.specs.Bounds.{arrivalsOf, costOf, supplyOf, windowOf}
+use Rattle.windows.specs.Bounds.{arrivalsOf, costOf, windowOf}
 use Rattle.windows.specs.Parts.{mostWork, demandBut, finishOf}
 
 abbrev Inv-loop2 : tie.InvT-loop2
@@ -74,21 +74,19 @@ charged c = c .before .work .ensures .0 ∙ work-of (first c .args .t1) (first c
 
 -- where the inner loop goes on, F is longer
 missed : (c : tie.Else1 Inv-loop2 μ-loop2 Inv-loop μ-loop) → c .before .before .loop2 .length + 1 ≤ F (c .before .before)
-unfolding supplyOf
 missed c =
     let at = c .before .before in
     let start = first at in
     finish-miss (start .args .t1) (start .args .t2) (start .pre .0) (start .args .x) (offset at) (early (at .before .before)) (start .pre .1) (at .loop2 .length) _ _ _
-    (at .loop2 .inv .1) (at .loop2 .inv .0) (charged at) (at .loop2 .inv .2) (c .before .supply .ensures .0) (c .if1 .left)
+    (at .loop2 .inv .1) (at .loop2 .inv .0) (charged at) (at .loop2 .inv .2) (c .before .supply .ensures) (c .if1 .left)
 
 -- where it breaks, the length is F
 found : (c : tie.Then1 Inv-loop2 μ-loop2 Inv-loop μ-loop) → c .before .before .loop2 .length ≡ F (c .before .before)
-unfolding supplyOf
 found c =
     let at = c .before .before in
     let start = first at in
     finish-hit (start .args .t1) (start .args .t2) (start .pre .0) (start .args .x) (offset at) (early (at .before .before)) (start .pre .1) (at .loop2 .length) _ _ _
-    (at .loop2 .inv .1) (at .loop2 .inv .0) (charged at) (at .loop2 .inv .2) (c .before .supply .ensures .0) (c .if1 .taken)
+    (at .loop2 .inv .1) (at .loop2 .inv .0) (charged at) (at .loop2 .inv .2) (c .before .supply .ensures) (c .if1 .taken)
 
 array-read-head : tie.Need-array-read-head Inv-loop2 μ-loop2 Inv-loop μ-loop
 array-read-head c = omega (arith, c .pre .0 .sound .few)
@@ -129,9 +127,7 @@ add-if1 : tie.Need-add-if1 Inv-loop2 μ-loop2 Inv-loop μ-loop
 add-if1 c = omega (arith, c .loop2 .inv .3, c .before .work .ensures .1)
 
 supply-requires : tie.Need-supply-requires Inv-loop2 μ-loop2 Inv-loop μ-loop
-supply-requires c κs =
-    let r = first c .pre .0 in
-    (r .sound .budget-some, r .sound .budget-le, r .sound .period-le, omega (arith, c .loop2 .inv .1, short c))
+supply-requires c κs = (first c .pre .0 .sound, omega (arith, c .loop2 .inv .1, short c))
 
 add-length : tie.Need-add-length Inv-loop2 μ-loop2 Inv-loop μ-loop
 add-length c = omega (arith, missed c, short (c .before .before))
@@ -189,8 +185,6 @@ bound-spec =
     work-requires
     loop2-holds
     add-if1
-    (λ c. search needs)
-    (λ c. search needs)
     supply-requires
     add-length
     demand-but-requires-2

@@ -7,7 +7,7 @@ use Rattle.ranges.proofs.LeastLaws.{rest}
 use Rattle.windows.proofs.SearchLaws.{window-start, window-hit, window-miss, window-end}
 use Rattle.windows.proofs.window.Statement.{statement}
 use Rattle.windows.proofs.window.Tie as tie
-use Rattle.windows.specs.Bounds.{supplyOf, windowOf}
+use Rattle.windows.specs.Bounds.{windowOf}
 use Rattle.windows.specs.Parts.{coveredOf}
 
 abbrev Inv-loop : tie.InvT-loop
@@ -23,27 +23,23 @@ demand-but-requires : tie.Need-demand-but-requires Inv-loop μ-loop
 demand-but-requires c κs = (c .before .before .before .pre .0, omega arith)
 
 supply-requires : tie.Need-supply-requires Inv-loop μ-loop
-supply-requires c κs =
-    let r = c .before .before .before .before .before .before .pre .0 in
-    (r .sound .budget-some, r .sound .budget-le, r .sound .period-le, omega arith)
+supply-requires c κs = (c .before .before .before .before .pre .0 .sound, omega arith)
 
 returns : tie.Need-returns Inv-loop μ-loop
-unfolding supplyOf
 returns c =
-    let start = c .before .before .before .before .before .before .before .before in (
-      sym (window-hit (start .args .t) (start .args .horizon) _ _ _ (c .before .before .before .before .before .loop-test .taken) (c .before .before .before .before .demand-but .ensures .0) (c .before .supply .ensures .0) (c .if1 .taken))
-          ∙ c .before .before .before .before .before .before .loop .inv .2,
+    let start = c .before .before .before .before .before .before in (
+      sym (window-hit (start .args .t) (start .args .horizon) _ _ _ (c .before .before .before .loop-test .taken) (c .before .before .demand-but .ensures .0) (c .before .supply .ensures) (c .if1 .taken))
+          ∙ c .before .before .before .before .loop .inv .2,
       omega arith,
     )
 
 loop-again : tie.Need-loop-again Inv-loop μ-loop
-unfolding supplyOf
 loop-again c =
-    let start = c .before .before .before .before .before .before .before .before in (
+    let start = c .before .before .before .before .before .before in (
       omega arith,
       omega arith,
-      sym (window-miss (start .args .t) (start .args .horizon) _ _ _ (c .before .before .before .before .before .loop-test .taken) (c .before .before .before .before .demand-but .ensures .0) (c .before .supply .ensures .0) (c .if1 .left))
-          ∙ c .before .before .before .before .before .before .loop .inv .2,
+      sym (window-miss (start .args .t) (start .args .horizon) _ _ _ (c .before .before .before .loop-test .taken) (c .before .before .demand-but .ensures .0) (c .before .supply .ensures) (c .if1 .left))
+          ∙ c .before .before .before .before .loop .inv .2,
     )
 
 returns-2 : tie.Need-returns-2 Inv-loop μ-loop
@@ -58,8 +54,6 @@ window-spec =
     (λ c. search needs)
     loop-holds
     demand-but-requires
-    (λ c. search needs)
-    (λ c. search needs)
     supply-requires
     returns
     (λ c. search needs)
