@@ -8,7 +8,7 @@
  * uint16_t lies at an even one, as C has it.
  * Threads. Any number of threads may call at once, if none writes memory that another one's call uses: a state belongs to
  * one call at a time, and so does a row; a table may be shared.
- * Stack. CUORFELT_STACK bytes suffice for any call. cuorfelt_tick was measured at 3,280 bytes, cuorfelt_analyse at 2,928; the rest is
+ * Stack. CUORFELT_STACK bytes suffice for any call. cuorfelt_tick was measured at 3,376 bytes, cuorfelt_analyse at 2,960; the rest is
  * for the loader, where it binds memcpy at the first call.
  *
  * A callback's index counts from 1, and is 0 where none is meant. */
@@ -25,7 +25,7 @@ extern "C" {
 /* The version of this header and of its library. A host is compiled anew where the first number differs; the second rises where
  * something is added, the third where neither is so. */
 #define CUORFELT_VERSION_MAJOR 1
-#define CUORFELT_VERSION_MINOR 1
+#define CUORFELT_VERSION_MINOR 2
 #define CUORFELT_VERSION_PATCH 0
 
 /* Sizes. */
@@ -41,7 +41,7 @@ enum {
 
 /* Limits. */
 enum {
-    CUORFELT_LONGEST = 60000,        /* the largest period, jitter, horizon, cost entry and cost, in ticks */
+    CUORFELT_LONGEST = 60000,        /* the largest period, delay, jitter, horizon, cost entry and cost, in ticks */
     CUORFELT_DEFAULT_HORIZON = 60000, /* what a horizon of 0 means */
     CUORFELT_MOST_WAITING = 255,     /* instances of a callback that wait, at most */
     CUORFELT_MOST_TICKS = 1000000000 /* ticks that a machine takes, at most */
@@ -83,6 +83,7 @@ enum {
     CUORFELT_WRONG_COST = 19,
     CUORFELT_NOT_A_HEAD = 20,
     CUORFELT_QUEUE_FULL = 21,
+    CUORFELT_WRONG_DELAY = 22,
     CUORFELT_FAULTY_STATE = 29
 };
 

@@ -36,11 +36,13 @@ static inline cuorfelt_words cuorfelt_text(unsigned number, unsigned index)
         return cuorfelt_words_of("the length is not 16 + 32 n", "make byte 1 the number of records; cut what follows them");
     case CUORFELT_SPARE_NOT_ZERO:
         if (index == 0)
-            return cuorfelt_words_of("a byte of 8 to 15 is not zero", "write zeros");
+            return cuorfelt_words_of("a byte of 10 to 15 is not zero", "write zeros");
         return cuorfelt_words_of("byte 3, 10, 11 or 28 to 31 of its record, or an entry beyond m, is not zero",
                                  "write zeros; raise m if the entry is meant");
     case CUORFELT_WRONG_SUPPLY:
         return cuorfelt_words_of("Q is zero or above P, or P is above 60,000", "give Q and P in ticks; choose a longer tick");
+    case CUORFELT_WRONG_DELAY:
+        return cuorfelt_words_of("Z is above 60,000", "give Z in ticks, 0 where the thread is never released late; choose a longer tick");
     case CUORFELT_WRONG_HORIZON:
         return cuorfelt_words_of("H is above 60,000", "write 60,000 or less, or 0");
     case CUORFELT_WRONG_KIND:
@@ -63,7 +65,7 @@ static inline cuorfelt_words cuorfelt_text(unsigned number, unsigned index)
                                  "declare a head's arrivals, with a longer tick if they do not fit; write zeros for a follower");
     case CUORFELT_NO_WINDOW:
         return cuorfelt_words_of("there is no window up to H",
-                                 "the desk asks for more than it is given: raise Q, lower costs, raise T or d, lower J; if it is only behind "
+                                 "the desk asks for more than it is given: raise Q, lower Z or costs, raise T or d, lower J; if it is only behind "
                                  "for long, raise H");
     case CUORFELT_TOO_MANY:
         return cuorfelt_words_of("more than 255 of its events may come within the window", "raise d or lower J; or shorten the window as for 15");

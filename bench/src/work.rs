@@ -186,6 +186,7 @@ fn longest() -> Table {
         budget: 1,
         period: 1,
         horizon: 0,
+        delay: 0,
         callbacks: vec![lone; 16],
     }
 }
@@ -242,6 +243,7 @@ fn chain() -> Table {
         budget: 1,
         period: 1,
         horizon: 0,
+        delay: 0,
         callbacks: (0..16).map(member).collect(),
     }
 }

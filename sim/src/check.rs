@@ -1,6 +1,6 @@
 //! Demand 3 tried on random tables and histories.
 
-use crate::generate::histories::{within, Style};
+use crate::generate::histories::{recovery, within, Style};
 use crate::generate::tables::{table, Shape};
 use crate::history::{conclusions, longest_response, within_curves, Departure, History, Violation};
 use crate::random::Random;
@@ -42,6 +42,8 @@ pub struct Totals {
     pub accepted: u64,
     /// The accepted tables of edition 2.
     pub second: u64,
+    /// The accepted tables with a delay.
+    pub delayed: u64,
     pub longest_window: u64,
     pub histories: u64,
     pub ticks: u64,
@@ -57,8 +59,21 @@ pub struct Totals {
     pub violations: Vec<String>,
 }
 
-/// How many histories each table is tried with.
-const HISTORIES: u64 = 9;
+/// How many histories each table is tried with: every style of `of_turn` twice, and greedy first.
+fn histories(table: &Table) -> u64 {
+    if table.delay == 0 {
+        9
+    } else {
+        11
+    }
+}
+
+/// How long they are, if they may be: some windows, and for a table with a delay a rest in which
+/// this comes back, so that it can be spent twice.
+fn enough(table: &Table, window: u64) -> u64 {
+    let rest = if table.delay == 0 { 0 } else { recovery(table) };
+    8 * window + 20 + rest
+}
 
 /// Checks `count` tables; table i is drawn from `seed` + i, so that
 /// `check(seed + i, 1, ..)` repeats it.
@@ -83,11 +98,12 @@ fn check_table(seed: u64, most_ticks: u64, totals: &mut Totals) {
     };
     totals.accepted += 1;
     totals.second += u64::from(sheet.table.edition == 2);
+    totals.delayed += u64::from(sheet.table.delay > 0);
     totals.longest_window = totals.longest_window.max(sheet.window);
     let (table, window) = (&sheet.table, sheet.window);
     let mut responses = vec![0; table.count()];
-    let length = most_ticks.min(8 * window + 20);
-    let styles: Vec<Style> = (0..HISTORIES)
+    let length = most_ticks.min(enough(table, window));
+    let styles: Vec<Style> = (0..histories(table))
         .map(|turn| Style::of_turn(&mut random, table, window, turn))
         .collect();
     for style in styles {
@@ -144,6 +160,7 @@ pub fn report(totals: &Totals) -> String {
         format!("tables {}", totals.tables),
         format!("accepted {}", totals.accepted),
         format!("of these in edition 2 {}", totals.second),
+        format!("of these with a delay {}", totals.delayed),
         format!("longest window {}", totals.longest_window),
         format!("histories {}", totals.histories),
         format!("ticks {}", totals.ticks),

@@ -4,8 +4,8 @@ use crate::streams::input;
 use sim::check::{check, judged, report};
 use sim::frames::{cut_readings, cut_replies, framed, packed_history, readings, replies};
 use sim::generate::damage::damaged;
-use sim::generate::edges::{base, edges};
-use sim::generate::histories::{covering, outside, span, within, Style};
+use sim::generate::edges::{base, edges, late};
+use sim::generate::histories::{covering, outside, span, starved, within, Style};
 use sim::generate::states::{changes, sound, spoil};
 use sim::generate::tables::{any_shape, table, Shape};
 use sim::generate::worst::worst;
@@ -224,7 +224,7 @@ fn played_histories(bytes: &[u8]) -> Ending {
 fn generated(words: &[&str]) -> Result<Vec<u8>, Failure> {
     match words {
         ["generate", "readings"] => Ok(edges().iter().flat_map(|bytes| framed(bytes)).collect()),
-        ["generate", "histories"] => Ok([covered(1), covered(2)].concat()),
+        ["generate", "histories"] => Ok([covered(1), covered(2), delayed()].concat()),
         ["generate", "tables", seed, count, rest @ ..] => Ok(tables(seed, count, rest)?.into()),
         ["generate", "history", seed, rest @ ..] => Ok(history(seed, rest)?.into()),
         _ => Err(wrong(words)),
@@ -234,6 +234,11 @@ fn generated(words: &[&str]) -> Result<Vec<u8>, Failure> {
 /// The history of this edition for `sim histories`.
 fn covered(edition: u8) -> Vec<u8> {
     packed_history(&encode(&base(edition)), &covering(edition))
+}
+
+/// The history of a table with a delay for `sim histories`.
+fn delayed() -> Vec<u8> {
+    packed_history(&encode(&late()), &starved())
 }
 
 fn tables(seed: &str, count: &str, rest: &[&str]) -> Result<String, Failure> {
@@ -298,10 +303,10 @@ fn accepted(random: &mut Random) -> Vec<u8> {
     }
 }
 
-/// A history within the curves. For a drawn table phases and rests go by the window alone, however
-/// short the history is: what a seed gives there is relied on.
+/// A history within the curves. For a drawn table without a delay phases and rests go by the window
+/// alone, however short the history is: what a seed gives there is relied on.
 fn pressing(random: &mut Random, sheet: &Sheet, length: u64, given: bool) -> Vec<Tick> {
-    let span = if given {
+    let span = if given || sheet.table.delay > 0 {
         span(sheet.window, length)
     } else {
         sheet.window

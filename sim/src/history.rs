@@ -1,8 +1,8 @@
 //! Activations, starts and completions in a history, the test that it is within the curves, and the
-//! conclusions of demand 3. Sections in quotes are document 01's.
+//! conclusions of demand 3. Sections in quotes are document 01's, U2 is a request of document 02.
 
 use crate::machine::{bit, start, Answer, Reply, Tick};
-use crate::sheet::{arrivals, cost, supply};
+use crate::sheet::{arrivals, cost, delayed_supply};
 use crate::table::{Table, LARGEST, MOST_CALLBACKS};
 use crate::trackers::{ArrivalTracker, CostTracker, SupplyTracker};
 
@@ -234,7 +234,8 @@ fn check_arrivals(
     }
 }
 
-/// 'Curves', supply: a window of D ticks has s(D) supplied ticks or more.
+/// 'Curves', supply, and U2: a window of D ticks has as many supplied ticks as the delayed curve has
+/// at D, or more. So no window of up to Z ticks is short.
 fn check_supply(table: &Table, history: &History, search: Search) -> Result<(), Departure> {
     let ticks = history.ticks.iter();
     let values: Vec<u64> = ticks.map(|tick| u64::from(tick.supplied)).collect();
@@ -246,7 +247,7 @@ fn check_supply(table: &Table, history: &History, search: Search) -> Result<(), 
             wrong
         })
     };
-    let wrong = |d: usize, held| held < supply(table.budget, table.period, d as u64);
+    let wrong = |d: usize, held| held < delayed_supply(table, d as u64);
     match first_window(&values, search, tracked, wrong) {
         Some((from, length)) => Err(Departure::Supply { from, length }),
         None => Ok(()),

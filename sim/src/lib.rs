@@ -1,7 +1,7 @@
 //! The cue executor and its timing sheet. `table`, `sheet`, `machine`,
-//! `history` and `trackers` are written from document 01 and request U1 of
-//! document 02 alone; their comments name the section, step or refusal that the
-//! code renders.
+//! `history` and `trackers` are written from document 01 and requests U1 and U2
+//! of document 02 alone; their comments name the section, step or refusal that
+//! the code renders.
 
 pub mod check;
 pub mod frames;

@@ -1,5 +1,6 @@
 //! The machine: one tick at a time (refusals 18 to 21 and 29). Steps and sections in quotes are
-//! document 01's, U1 is a request of document 02.
+//! document 01's, U1 and U2 are requests of document 02. The start delay of U2 is no matter of the
+//! machine: it lies in the table, and only the reader looks at it.
 
 use crate::table::{read, refusal, Kind, Refusal, Table, LARGEST, MOST_CALLBACKS};
 
@@ -66,7 +67,8 @@ pub struct Start {
 }
 
 /// 'One tick of the machine', start: a state with these bytes, all else zero. Where the reader
-/// refuses the bytes (1 to 14): its refusal, and the same state without a table. Total.
+/// refuses the bytes (1 to 14, since U2 also 22): its refusal, and the same state without a table.
+/// Total.
 pub fn start(bytes: &[u8]) -> Start {
     let refusal = read(bytes).err();
     let table = match refusal {

@@ -39,6 +39,7 @@ pub fn svg_part(table: &Table, history: &History, names: &[&str], shown: Range<u
     drawing.unsupplied(history);
     drawing.axis();
     drawing.edition(table);
+    drawing.delay(table);
     drawing.pauses(history);
     for (time, reply) in drawing.replies(history) {
         drawing.reply(time, reply, table);
@@ -205,6 +206,17 @@ impl Drawing {
             let at = (LEFT - 10, TOP - 30);
             self.words(at, "end", "edition 2: polls take timers");
         }
+    }
+
+    /// Below the word of the axis, where the supply is late.
+    fn delay(&mut self, table: &Table) {
+        let ticks = match table.delay {
+            0 => return,
+            1 => "1 tick".to_string(),
+            delay => format!("{delay} ticks"),
+        };
+        let at = (LEFT - 10, self.bottom() + 32);
+        self.words(at, "end", &format!("supply late by up to {ticks}"));
     }
 
     fn row(&mut self, index: usize, table: &Table, name: Option<&str>) {

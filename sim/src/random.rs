@@ -35,6 +35,12 @@ impl Random {
         Random(self.0).bits() >> 63 == 1
     }
 
+    /// Another generator, which begins where the present state says. Like `coin` it takes no number,
+    /// and it goes with none that comes after it here: its beginning is a number from far off.
+    pub fn aside(&self) -> Random {
+        Random(Random(!self.0).bits())
+    }
+
     pub fn pick<'a, T>(&mut self, items: &'a [T]) -> &'a T {
         &items[self.range(0, items.len() as u64 - 1) as usize]
     }

@@ -1,5 +1,5 @@
 //! The curves and the sheet: window, bounds and the analyser (refusals 15 to 17). Sections in
-//! quotes are document 01's.
+//! quotes are document 01's, U2 is a request of document 02.
 
 use crate::table::{read, refusal, Callback, Refusal, Table, MOST_CALLBACKS};
 
@@ -28,8 +28,9 @@ pub fn cost(entries: &[u64], instances: u64) -> u64 {
     times * entries[entries.len() - 1] + cost(entries, rest)
 }
 
-/// 'Curves', supply: the fewest supplied ticks among D = `length` in a row. With g = P - Q it is 0
-/// where D < g, otherwise k × Q + max(0, D - 2 × g - k × P), k = ⌊(D - g) / P⌋. (Q must be 1 to P)
+/// 'Curves', supply, as it is without a delay: s at D = `length`. With g = P - Q it is 0 where
+/// D < g, otherwise k × Q + max(0, D - 2 × g - k × P), k = ⌊(D - g) / P⌋. Only `delayed_supply`
+/// rests on it; all else rests on that one. (Q must be 1 to P)
 pub fn supply(budget: u64, period: u64, length: u64) -> u64 {
     let gap = period - budget;
     if length < gap {
@@ -37,6 +38,16 @@ pub fn supply(budget: u64, period: u64, length: u64) -> u64 {
     }
     let whole = (length - gap) / period;
     whole * budget + length.saturating_sub(2 * gap + whole * period)
+}
+
+/// U2, supply: the fewest supplied ticks among D = `length` in a row. It is s at D - Z, and 0 for
+/// a D below Z, so that Z ticks are lost once in every window. Like s it never falls, and grows by
+/// at most 1 with a tick: up to Z it rests at 0, which is s(0) too. (Q must be 1 to P)
+pub fn delayed_supply(table: &Table, length: u64) -> u64 {
+    match length.checked_sub(table.delay) {
+        Some(rest) => supply(table.budget, table.period, rest),
+        None => 0,
+    }
 }
 
 /// 'The sheet', E(a(D)): the callback's cost curve at the arrivals in D = `length` ticks. A
@@ -61,8 +72,7 @@ fn cost_of_others(table: &Table, index: usize, length: u64) -> u64 {
 /// 'The sheet', window: W, the first length from 1 to the horizon whose supply covers the costs of
 /// all callbacks; none where no length does.
 pub fn window_literal(table: &Table) -> Option<u64> {
-    (1..=table.longest_window())
-        .find(|&w| supply(table.budget, table.period, w) >= cost_of_all(table, w))
+    (1..=table.longest_window()).find(|&w| delayed_supply(table, w) >= cost_of_all(table, w))
 }
 
 /// 'The sheet', bound: the largest response F(A) - A over the offsets A below `window`. F(A) is the
@@ -74,7 +84,7 @@ pub fn bound_literal(table: &Table, index: usize, window: u64) -> u64 {
         let own = cost_in(table, index, offset + 1);
         for length in 1..=window {
             let needed = own + cost_of_others(table, index, length);
-            if supply(table.budget, table.period, length) >= needed {
+            if delayed_supply(table, length) >= needed {
                 bound = bound.max(length.saturating_sub(offset));
                 break;
             }
@@ -84,13 +94,13 @@ pub fn bound_literal(table: &Table, index: usize, window: u64) -> u64 {
 }
 
 /// The number of `window_literal`, by jumps. Where the supply of a length L falls short of the
-/// cost by x, no length below L + x is a window: the supply grows by at most 1 a tick, and the
-/// cost never falls with the length. So jumping to L + x skips no window.
+/// cost by x, no length below L + x is a window: the supply grows by at most 1 a tick, with a delay
+/// too, and the cost never falls with the length. So jumping to L + x skips no window.
 pub fn window(table: &Table) -> Option<u64> {
     let mut length = 1;
     while length <= table.longest_window() {
         let needed = cost_of_all(table, length);
-        let supplied = supply(table.budget, table.period, length);
+        let supplied = delayed_supply(table, length);
         if supplied >= needed {
             return Some(length);
         }
@@ -103,9 +113,7 @@ pub fn window(table: &Table) -> Option<u64> {
 /// to W is reckoned once and kept; these are the same values. Shortcut 2: the sum over the others
 /// is the sum over all less the callback's own. For shortcut 3 see `bound_by_rows`.
 pub fn bounds(table: &Table, window: u64) -> Vec<u64> {
-    let supplied: Vec<u64> = (0..=window)
-        .map(|d| supply(table.budget, table.period, d))
-        .collect();
+    let supplied: Vec<u64> = (0..=window).map(|d| delayed_supply(table, d)).collect();
     let costs: Vec<Vec<u64>> = (1..=table.count())
         .map(|i| cost_row(table, i, window))
         .collect();
@@ -127,7 +135,8 @@ fn cost_row(table: &Table, index: usize, window: u64) -> Vec<u64> {
 
 /// Shortcut 3: the callback's own cost, E(a(A + 1)), never falls as A grows, so a length that is
 /// too short for one offset is too short for every later one. The search for F(A + 1) therefore
-/// begins at F(A), and where an offset has no length up to W, no later one has.
+/// begins at F(A), and where an offset has no length up to W, no later one has. (of the supply
+/// nothing is asked, so a delay changes nothing here)
 fn bound_by_rows(supplied: &[u64], own: &[u64], all: &[u64]) -> u64 {
     let (mut bound, mut length) = (0, 1);
     for offset in 0..supplied.len() - 1 {

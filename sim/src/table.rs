@@ -1,5 +1,5 @@
-//! The callback table: its values, its bytes and its reader (refusals 1 to 14). Sections in quotes
-//! are document 01's, U1 is a request of document 02.
+//! The callback table: its values, its bytes and its reader (refusals 1 to 14 and 22). Sections in
+//! quotes are document 01's, U1 and U2 are requests of document 02.
 
 pub const MOST_CALLBACKS: usize = 16;
 pub const LARGEST: u64 = 60_000;
@@ -35,13 +35,14 @@ pub struct Callback {
     pub distance: u64,
 }
 
-/// Header and records; `budget` is Q, `period` P, `horizon` H as written.
+/// Header and records; `budget` is Q, `period` P, `horizon` H as written, `delay` the Z of U2.
 #[derive(Clone, Debug, PartialEq, Eq)]
 pub struct Table {
     pub edition: u8,
     pub budget: u64,
     pub period: u64,
     pub horizon: u64,
+    pub delay: u64,
     pub callbacks: Vec<Callback>,
 }
 
@@ -132,8 +133,8 @@ fn refuse_if(condition: bool, number: u8, index: usize) -> Result<(), Refusal> {
     }
 }
 
-/// Refusals 1 to 14: the table, or the first refusal met in header, records, links and arrivals,
-/// where a record goes through all its rows before the next record. Total.
+/// Refusals 1 to 14 and 22: the table, or the first refusal met in header, records, links and
+/// arrivals, where a record goes through all its rows before the next record. Total.
 pub fn read(bytes: &[u8]) -> Result<Table, Refusal> {
     check_header(bytes)?;
     let mut callbacks = Vec::new();
@@ -146,6 +147,7 @@ pub fn read(bytes: &[u8]) -> Result<Table, Refusal> {
         budget: word(bytes, 2),
         period: word(bytes, 4),
         horizon: word(bytes, 6),
+        delay: word(bytes, 8),
         callbacks,
     };
     check_links(&table)?;
@@ -153,17 +155,20 @@ pub fn read(bytes: &[u8]) -> Result<Table, Refusal> {
     Ok(table)
 }
 
-/// Refusals 1 to 7, with index 0. 'The callback table', header: edition (1, since U1 or 2) at byte
-/// 0, n (1 to 16) at 1, Q at 2, P at 4, H (0 is in range) at 6, spare bytes from 8 to 15.
+/// Refusals 1 to 7 and, between 6 and 7, the 22 of U2; all with index 0. 'The callback table',
+/// header: edition (1, since U1 or 2) at byte 0, n (1 to 16) at 1, Q at 2, P at 4, H (0 is in
+/// range) at 6, since U2 Z (0 too) at 8, spare bytes from 10 to 15.
 fn check_header(bytes: &[u8]) -> Result<(), Refusal> {
     refuse_if(bytes.len() < HEADER_BYTES, 1, 0)?;
     refuse_if(![1, 2].contains(&bytes[0]), 2, 0)?;
     let count = usize::from(bytes[1]);
     refuse_if(!(1..=MOST_CALLBACKS).contains(&count), 3, 0)?;
     refuse_if(bytes.len() != HEADER_BYTES + RECORD_BYTES * count, 4, 0)?;
-    refuse_if(bytes[8..16].iter().any(|&b| b != 0), 5, 0)?;
-    let (budget, period, horizon) = (word(bytes, 2), word(bytes, 4), word(bytes, 6));
+    refuse_if(bytes[10..16].iter().any(|&b| b != 0), 5, 0)?;
+    let (budget, period) = (word(bytes, 2), word(bytes, 4));
+    let (horizon, delay) = (word(bytes, 6), word(bytes, 8));
     refuse_if(budget == 0 || budget > period || period > LARGEST, 6, 0)?;
+    refuse_if(delay > LARGEST, 22, 0)?;
     refuse_if(horizon > LARGEST, 7, 0)
 }
 
@@ -248,7 +253,7 @@ fn check_arrivals(table: &Table) -> Result<(), Refusal> {
 /// its field keeps its low bits; entries beyond the eighth have no place.
 pub fn encode(table: &Table) -> Vec<u8> {
     let mut bytes = vec![table.edition, table.count() as u8];
-    for value in [table.budget, table.period, table.horizon] {
+    for value in [table.budget, table.period, table.horizon, table.delay] {
         bytes.extend((value as u16).to_le_bytes());
     }
     bytes.resize(HEADER_BYTES, 0);

@@ -1,7 +1,8 @@
 //! The curves kept step by step: what the windows that end with the next tick, and the runs that
 //! end with the next instance, still permit. Each answer is the one that a look at every window
 //! would give, for work that does not grow with the history or with P, Q, T, J and d. The test of a
-//! history and the generator both ask here. 'Curves' is document 01's section.
+//! history and the generator both ask here. 'Curves' is document 01's section, U2 a request of
+//! document 02.
 
 use crate::table::{Callback, Table};
 use std::collections::VecDeque;
@@ -70,24 +71,28 @@ impl ArrivalTracker {
     }
 }
 
-/// 'Curves', supply, with g = P - Q.
+/// 'Curves', supply, with g = P - Q, late by the Z of U2.
 ///
 /// s rests at k × Q for lengths from g + k × P to 2 × g + k × P and then climbs by 1 a tick until
-/// it rests again. So with c = k × Q + r, r below Q, the first length with more than c is
-/// 2 × g + k × P + r + 1. A window of c supplied and u unsupplied ticks has D = c + u; it is short
-/// of s(D) just where D is at least that length, which comes to u > (2 + k) × g, k = ⌊c / Q⌋.
+/// it rests again. So with c = k × Q + r, r below Q, the first length at which s is more than c is
+/// 2 × g + k × P + r + 1; the delayed curve is s moved Z lengths on, and has more than c first at
+/// Z + 2 × g + k × P + r + 1. A window of c supplied and u unsupplied ticks has D = c + u. As the
+/// curve never falls, the window is short just where D is at least that length, which comes to
+/// u > Z + (2 + k) × g, k = ⌊c / Q⌋: the gaps are paid anew with each budget, the delay once.
 ///
-/// A short window that ends with a supplied tick is short without that tick too, as s climbs by
-/// at most 1; so only ends at unsupplied ticks count. With b supplied and x unsupplied ticks before
-/// the window and C supplied ticks before its end, c = C - b, and the list may have at most
-/// x + (2 + ⌊(C - b) / Q⌋) × g unsupplied ticks up to that end. Of the beginnings that share
-/// ⌊(C - b) / Q⌋ the first has the smallest x and forbids the most: it is the beginning of the
-/// list, or it stands right behind the b-th supplied tick where C - b is Q - 1 more than a multiple
-/// of Q. The latter are the b of one class modulo Q, that of C + 1.
+/// A short window that ends with a supplied tick is short without that tick too, as the delayed
+/// curve climbs by at most 1; so only ends at unsupplied ticks count. With b supplied and x
+/// unsupplied ticks before the window and C supplied ticks before its end, c = C - b, and the list
+/// may have at most x + Z + (2 + ⌊(C - b) / Q⌋) × g unsupplied ticks up to that end. Of the
+/// beginnings that share ⌊(C - b) / Q⌋ the first has the smallest x and forbids the most: it is the
+/// beginning of the list, or it stands right behind the b-th supplied tick where C - b is Q - 1
+/// more than a multiple of Q. The latter are the b of one class modulo Q, that of C + 1.
 #[derive(Clone, Debug)]
 pub struct SupplyTracker {
     budget: u64,
     gap: u64,
+    /// What a window with less than Q supplied ticks may have of the others.
+    longest: u64,
     supplied: u64,
     unsupplied: u64,
     /// By class of b modulo Q: the unsupplied ticks that the list may have when that class is the
@@ -97,15 +102,22 @@ pub struct SupplyTracker {
     limits: Vec<u64>,
 }
 
+/// Z + 2 × g: the most ticks in a row that may be without supply.
+pub fn longest_starvation(table: &Table) -> u64 {
+    table.delay + 2 * (table.period - table.budget)
+}
+
 impl SupplyTracker {
     pub fn new(table: &Table) -> SupplyTracker {
         let gap = table.period - table.budget;
+        let longest = longest_starvation(table);
         SupplyTracker {
             budget: table.budget,
             gap,
+            longest,
             supplied: 0,
             unsupplied: 0,
-            limits: vec![2 * gap; table.budget as usize],
+            limits: vec![longest; table.budget as usize],
         }
     }
 
@@ -130,7 +142,7 @@ impl SupplyTracker {
         }
         self.supplied += 1;
         let class = self.class(self.supplied);
-        let joining = self.unsupplied + 2 * self.gap;
+        let joining = self.unsupplied + self.longest;
         self.limits[class] = joining.min(self.limits[class] + self.gap);
     }
 }

@@ -8,7 +8,7 @@ use sim::generate::tables::{any_shape, table};
 use sim::history::{play, within_curves, within_curves_literal, Departure, History};
 use sim::machine::{bit, Answer, Reply, Tick};
 use sim::random::Random;
-use sim::sheet::{arrivals, cost, supply, window};
+use sim::sheet::{arrivals, cost, delayed_supply, window};
 use sim::table::{encode, Callback, Kind, Table, LARGEST};
 use sim::trackers::{ArrivalTracker, CostTracker, SupplyTracker};
 
@@ -97,9 +97,40 @@ fn compare_all(tables: impl Iterator<Item = Table>, lists: u64, history: impl Fn
 #[test]
 fn all_short_lists_of_supply() {
     let reservations = (1..=5).flat_map(|period| (1..=period).map(move |budget| (budget, period)));
-    let tables =
-        reservations.map(|(budget, period)| supplied(budget, period, vec![subscription(9, &[1])]));
+    let tables = reservations
+        .map(|(budget, period)| supplied(budget, period, vec![subscription(9, &[1])]))
+        .flat_map(|table| [0, 1, 2, 3, 5].map(|delay| delayed(delay, &table)));
     compare_all(tables, 1 << 13, |list| supplies(list, 13));
+}
+
+/// U2 by hand: Q = 2, P = 5, Z = 3. A window may have no supply in 3 + 2 × 3 ticks, and 3 more with
+/// each 2 supplied ones; that is so for windows in the middle and at the beginning.
+#[test]
+fn unsupplied_ticks_of_a_delayed_window() {
+    let table = delayed(3, &supplied(2, 5, vec![subscription(9, &[1])]));
+    let lines = |runs: &[(bool, usize)]| {
+        let ticks = runs.iter().flat_map(|&(supplied, count)| {
+            let tick = Tick {
+                supplied,
+                ..tick(0, 1)
+            };
+            vec![tick; count]
+        });
+        departure(&table, &unplayed(ticks.collect()))
+    };
+    let short = |from, length| Some(Departure::Supply { from, length });
+    assert_eq!(lines(&[(false, 9)]), None);
+    assert_eq!(lines(&[(false, 10)]), short(0, 10));
+    assert_eq!(lines(&[(true, 5), (false, 9)]), None);
+    // The one supplied tick before the gap does not make up for it, two do.
+    assert_eq!(lines(&[(true, 5), (false, 10)]), short(4, 11));
+    assert_eq!(lines(&[(false, 9), (true, 1), (false, 1)]), short(0, 11));
+    assert_eq!(lines(&[(false, 9), (true, 2), (false, 3)]), None);
+    assert_eq!(lines(&[(false, 9), (true, 2), (false, 4)]), short(0, 15));
+    // All 9 are there again once three budgets have made good 3 × 3 of them, not before.
+    let again = |supplied| lines(&[(false, 9), (true, supplied), (false, 9)]);
+    assert_eq!(again(6), None);
+    assert_eq!(again(5), short(0, 21));
 }
 
 #[test]
@@ -165,9 +196,13 @@ const RESERVATIONS: [(u64, u64); 16] = [
 #[test]
 fn supply_at_the_limit_and_across() {
     let mut random = Random::new(20);
-    let mut seen = Seen::default();
-    for (budget, period) in RESERVATIONS.repeat(30) {
-        let table = supplied(budget, period, vec![subscription(9, &[1])]);
+    let mut seen = [Seen::default(), Seen::default()];
+    for (budget, period) in RESERVATIONS.repeat(60) {
+        let delay = *random.pick(&[0, 0, 1, 2, 7, 40, 290, 60_000]);
+        let table = delayed(
+            delay,
+            &supplied(budget, period, vec![subscription(9, &[1])]),
+        );
         let length = *random.pick(&[2, 30, 100, 300]);
         let style = Style::of_turn(&mut random, &table, 1 + length / 3, budget % 5);
         let limit = within(&mut random, &table, &style, length).ticks;
@@ -181,10 +216,10 @@ fn supply_at_the_limit_and_across() {
                 2 => ticks.insert(at, unsupplied(0, 1)),
                 _ => ticks.swap(at, length as usize / 2),
             }
-            seen.note(departure(&table, &unplayed(ticks)));
+            seen[usize::from(delay > 0)].note(departure(&table, &unplayed(ticks)));
         }
     }
-    assert!(seen.within > 300 && seen.outside > 300);
+    assert!(seen.iter().all(|s| s.within > 300 && s.outside > 300));
 }
 
 /// Arrivals: T = d, d = 1, T = d = 1, no jitter, jitter beyond the list.
@@ -300,6 +335,7 @@ fn changed(random: &mut Random, table: &Table, ticks: &mut Vec<Tick>) {
 fn played_histories() {
     let mut random = Random::new(23);
     let mut seen = [Seen::default(), Seen::default()];
+    let mut late = Seen::default();
     for turn in 0..1_200 {
         let shape = any_shape(&mut random);
         let table = table(&mut random, shape);
@@ -314,10 +350,14 @@ fn played_histories() {
                 changed(&mut random, &table, &mut ticks);
             }
             seen[0].note(played(&ticks));
+            if table.delay > 0 {
+                late.note(played(&ticks));
+            }
         }
         seen[1].note(played(&outside(&mut random, &table, length)));
     }
     assert!(seen[0].within > 500 && seen[0].outside > 500 && seen[1].outside > 500);
+    assert!(late.within > 200 && late.outside > 200);
 }
 
 /// Head 1's windows come first, even where head 2's ends earlier; the supply comes after both.
@@ -372,6 +412,7 @@ fn trackers_by_their_curves() {
     for _ in 0..400 {
         let (period, budget) = (random.range(1, 9), random.range(1, 9));
         let table = supplied(budget.min(period), period, vec![head(period, budget, 1)]);
+        let table = delayed(random.range(0, 12), &table);
         let (mut by_supply, mut by_arrivals) = (
             SupplyTracker::new(&table),
             ArrivalTracker::new(table.callback(1)),
@@ -380,7 +421,7 @@ fn trackers_by_their_curves() {
         for time in 0..40 {
             let starves = (0..=list.len()).all(|from| {
                 let held: u64 = list[from..].iter().sum();
-                held >= supply(table.budget, period, (list.len() + 1 - from) as u64)
+                held >= delayed_supply(&table, (list.len() + 1 - from) as u64)
             });
             assert_eq!(by_supply.may_starve(), starves);
             let arrives = (0..times.len()).all(|first| {
@@ -426,8 +467,14 @@ fn long_histories_take_seconds() {
         lone(Kind::Timer, 40, 2, 38, &[2]),
         lone(Kind::Client, 100, 90, 10, &[2, 3, 5]),
     ];
-    for (budget, period) in [(6, 10), (40_000, 60_000), (1, 1)] {
-        let table = supplied(budget, period, callbacks.clone());
+    for (budget, period, delay) in [
+        (6, 10, 0),
+        (6, 10, 700),
+        (40_000, 60_000, 0),
+        (40_000, 60_000, 60_000),
+        (1, 1, 0),
+    ] {
+        let table = delayed(delay, &supplied(budget, period, callbacks.clone()));
         let style = Style::greedy(&table);
         let mut history = within(&mut Random::new(26), &table, &style, 200_000);
         assert_eq!(within_curves(&table, &history), Ok(()));

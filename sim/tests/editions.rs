@@ -348,7 +348,7 @@ fn histories_of_both_editions() {
     }
 }
 
-/// `sim generate histories` has the history of each edition, the first one's first.
+/// `sim generate histories` begins with the history of each edition, the first one's first.
 #[test]
 fn packed_histories_of_both_editions() {
     let mut command = Command::new(env!("CARGO_BIN_EXE_sim"));
@@ -358,7 +358,7 @@ fn packed_histories_of_both_editions() {
         assert_eq!(base.edition, edition);
         packed_history(&encode(&base), &sim::generate::histories::covering(edition))
     });
-    assert_eq!(packed.stdout, each.concat());
+    assert!(packed.stdout.starts_with(&each.concat()));
     let text = replies(&each[1]);
     assert!(!text.starts_with("refused") && text.contains("refused 21 1\n"));
 }

@@ -35,54 +35,66 @@ fn plain(script: &Script) -> History {
     play(&script.table, &ticks)
 }
 
-/// What seeds gave before the trackers and before edition 2, as digests of what they draw for
-/// tables of edition 1. The tables that a faulty history writes, and those of `generate tables`,
-/// stay but for the edition; without that they are compared.
+/// What seeds gave before the trackers, before edition 2 and before delays, as digests of what they
+/// draw for tables of edition 1 without a delay. Drawn tables stay but for edition and delay;
+/// without these they are compared.
 #[test]
 fn seeds_give_what_they_gave() {
-    let drawn = |sort: &str| {
-        let texts = histories_of_seeds(sort, 1);
-        digest(texts.iter().map(|text| without_editions(text)))
+    let drawn = |sort: &str, ticks: &str| digest(histories_of_seeds(sort, ticks));
+    assert_eq!(drawn("within", "300"), WITHIN);
+    assert_eq!(drawn("outside", "300"), OUTSIDE);
+    assert_eq!(drawn("worst", "40"), WORST);
+    let tables = |sort: &str| {
+        let text = program(&["generate", "tables", "1", "300", sort], b"");
+        digest(text.lines().map(without_edition_and_delay))
     };
-    assert_eq!(drawn("within"), WITHIN);
-    assert_eq!(drawn("outside"), OUTSIDE);
-    assert_eq!(drawn("faulty"), FAULTY);
-    let tables = program(&["generate", "tables", "1", "300"], b"");
-    let cut = tables
-        .lines()
-        .map(|line| format!("{}\n", line.get(2..).unwrap_or("")));
-    assert_eq!(digest(cut), TABLES);
-    let checks = (1..=60).map(|seed: u64| program(&["check", &seed.to_string(), "1"], b""));
-    let first = checks.filter(|text| text.contains(NO_SECOND));
-    assert_eq!(digest(first.map(|text| text.replace(NO_SECOND, ""))), CHECK);
+    assert_eq!(["small", "long", "extreme"].map(tables), TABLES);
+    let checks = (1..=90).map(|seed: u64| program(&["check", &seed.to_string(), "1"], b""));
+    let first = checks.filter(|text| text.contains(NEITHER));
+    assert_eq!(digest(first.map(|text| text.replace(NEITHER, ""))), CHECK);
 }
 
-const WITHIN: u64 = 0xb721_1176_684b_511c;
-const OUTSIDE: u64 = 0x61c7_7bf1_4fe7_3f56;
-const FAULTY: u64 = 0xa3ee_14c3_f486_11c0;
-const TABLES: u64 = 0x91da_4a01_f021_ffd1;
-const CHECK: u64 = 0xd125_d8e8_e264_6e0f;
-const NO_SECOND: &str = "of these in edition 2 0\n";
+const WITHIN: u64 = 0x9d64_4400_caa4_a586;
+const OUTSIDE: u64 = 0xb8d7_9f8b_7fb6_4ae9;
+const WORST: u64 = 0xc468_f7ef_b00d_cc88;
+const TABLES: [u64; 3] = [
+    0xa374_5eb6_8589_f093,
+    0x105b_297a_ca2f_eb06,
+    0x0462_703d_f5b7_4833,
+];
+const CHECK: u64 = 0x6621_b027_0287_50eb;
+const NEITHER: &str = "accepted 1\nof these in edition 2 0\nof these with a delay 0\n";
 
-/// What seeds 1 to 60 give of this sort, where the drawn table is of this edition.
-fn histories_of_seeds(sort: &str, edition: u8) -> Vec<String> {
-    let texts = (1..=60).map(|seed: u64| {
-        let words = ["generate", "history", &seed.to_string(), sort, "400"];
+/// What seeds 1 to 90 give of this sort, where the table is of edition 1 and none was drawn with a
+/// delay.
+fn histories_of_seeds(sort: &str, ticks: &str) -> Vec<String> {
+    let seeds = (1..=90).filter(|&seed| without_delays(seed));
+    let texts = seeds.map(|seed| {
+        let words = ["generate", "history", &seed.to_string(), sort, ticks];
         program(&words, b"")
     });
-    texts
-        .filter(|text| text.starts_with(&hex(&[edition])))
-        .collect()
+    texts.filter(|text| text.starts_with("01")).collect()
 }
 
-/// The text without the editions of the tables that it writes.
-fn without_editions(text: &str) -> String {
-    let cut = |line: &str| match line.strip_prefix("set table ") {
-        Some(bytes) => format!("set table {}\n", bytes.get(2..).unwrap_or("")),
-        None => line.to_string() + "\n",
-    };
-    text.lines().map(cut).collect()
+/// A table in hex, as a line, without bytes 0, 8 and 9.
+fn without_edition_and_delay(line: &str) -> String {
+    format!("{}{}\n", &line[2..16], &line[20..])
 }
+
+/// What seeds give since U2, damaged tables among it: these have one number more to be refused with.
+#[test]
+fn seeds_give_what_they_give() {
+    let faulty = (1..=30).map(|seed: u64| {
+        let words = ["generate", "history", &seed.to_string(), "faulty", "200"];
+        program(&words, b"")
+    });
+    assert_eq!(digest(faulty), FAULTY);
+    let tables = program(&["generate", "tables", "1", "300"], b"");
+    assert_eq!(digest([tables]), ANY_TABLES);
+}
+
+const FAULTY: u64 = 0x7368_bb56_09e2_26ce;
+const ANY_TABLES: u64 = 0x420a_e43b_2e42_2f68;
 
 #[test]
 fn histories_of_a_given_table() {
@@ -240,7 +252,7 @@ fn worst_of_all_that_are_tried() {
     assert!(longest_elsewhere > 0);
     assert_eq!(
         [0, 100, 2_500, 10_000, 10_000_000].map(tries),
-        [200, 200, 200, 50, 5]
+        [200, 200, 200, 50, 6]
     );
 }
 

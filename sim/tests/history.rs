@@ -87,11 +87,25 @@ fn each_condition_of_the_curves() {
     assert_eq!(judged(&[on, tick(0, 60_000)]), Ok(()));
 }
 
+/// U2: with a delay of 1 the supply may fail one tick longer, once.
+#[test]
+fn supply_with_a_delay() {
+    let table = delayed(1, &supplied(1, 2, vec![timer(4, &[2])]));
+    let judged = |ticks: &[Tick]| within_curves(&table, &played(&table, ticks));
+    let (on, off) = (tick(0, 1), unsupplied(0, 1));
+    let short = |from, length| Err(Departure::Supply { from, length });
+    assert_eq!(judged(&[on, off, off, off]), Ok(()));
+    assert_eq!(judged(&[on, off, off, off, off]), short(1, 4));
+    assert_eq!(judged(&[off, off, off, on, off, on, off]), Ok(()));
+    assert_eq!(judged(&[off, off, off, on, off, off]), short(0, 6));
+}
+
 #[test]
 fn generated_histories_are_within_the_curves_and_in_time() {
     let totals = sim::check::check(1_000, 120, 300);
     assert!(totals.accepted > 50 && totals.reached > 20);
     assert!(totals.second > 25 && totals.accepted - totals.second > 25);
+    assert!(totals.delayed > 25 && totals.accepted - totals.delayed > 25);
     assert!(totals.outside.is_empty(), "{:?}", totals.outside);
     assert!(totals.violations.is_empty(), "{:?}", totals.violations);
 }
@@ -187,7 +201,7 @@ fn outside_histories_are_refused() {
 #[test]
 fn lone_bounds_are_exact() {
     let mut random = Random::new(10);
-    let mut reached = 0;
+    let (mut reached, mut late) = (0, 0);
     while reached < 200 {
         let mut table = table(&mut random, Shape::Small);
         table.callbacks.truncate(1);
@@ -202,5 +216,7 @@ fn lone_bounds_are_exact() {
         let history = within(&mut random, &table, &Style::greedy(&table), window);
         assert_eq!(longest_response(&table, 1, &history), bounds[0]);
         reached += 1;
+        late += u64::from(table.delay > 0);
     }
+    assert!(late > 50);
 }

@@ -49,6 +49,30 @@ fn refused_start() {
     );
 }
 
+/// U2: a start gives 22 as the reader does, and a delay in range changes no step and no answer.
+#[test]
+fn starts_with_a_delay() {
+    let begun = start(&encode(&delayed(60_001, &chain())));
+    assert_eq!(begun.refusal, Some(refusal(22, 0)));
+    assert_eq!(begun.state, start(&[]).state);
+    assert_eq!(refused(&begun.state, tick(0, 1)), Some(refusal(29, 0)));
+    let mut states = [0, 1, 60_000].map(|delay| fresh(&delayed(delay, &chain())));
+    for (time, supplied) in (0..40).map(|time| (time, time % 3 != 0)) {
+        let tick = Tick {
+            supplied,
+            ..tick(u16::from(time % 7 == 0), 2)
+        };
+        let steps = states.map(|state| state.tick(tick));
+        assert!(steps.iter().all(|step| step.reply == steps[0].reply));
+        states = steps.map(|step| step.state);
+    }
+    assert!(states[0].finished[2] > 1);
+    for (state, delay) in states.iter().zip([0u16, 1, 60_000]) {
+        assert_eq!(state.table[8..10], delay.to_le_bytes());
+        assert_eq!(state.finished, states[0].finished);
+    }
+}
+
 #[test]
 fn unsupplied_tick_only_takes_arrivals() {
     let step = fresh(&chain()).tick(unsupplied(1, 5));
@@ -164,6 +188,12 @@ fn faulted(write: impl Fn(&mut State)) -> Option<Refusal> {
 fn refusal_29() {
     let bad = Some(refusal(29, 0));
     assert_eq!(faulted(|state| state.table[0] = 0), bad);
+    // U2: a delay above 60,000 in the state's table; up to there the machine does not look at it.
+    let late =
+        |delay: u16| faulted(|state| state.table[8..10].copy_from_slice(&delay.to_le_bytes()));
+    assert_eq!([60_001, 65_535].map(late), [bad, bad]);
+    assert_eq!([0, 1, 60_000].map(late), [None, None, None]);
+    assert_eq!(faulted(|state| state.table[10] = 1), bad);
     assert_eq!(faulted(|state| state.running = 4), bad);
     assert_eq!(faulted(|state| state.running = 17), bad);
     assert_eq!(

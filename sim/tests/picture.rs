@@ -74,10 +74,12 @@ fn whole_range_is_the_whole_picture() {
     assert_eq!(whole, part);
 }
 
-/// What pictures were before they had parts and before edition 2, as a digest of those in edition 1.
+/// What pictures were before they had parts, before edition 2 and before delays, as a digest of those
+/// with neither.
 #[test]
 fn whole_pictures_are_what_they_were() {
-    let histories = (1..=60).map(|seed: u64| {
+    let seeds = (1..=90).filter(|&seed| without_delays(seed));
+    let histories = seeds.map(|seed: u64| {
         let sort = ["within", "outside"][seed as usize % 2];
         let ticks = [5, 60, 100, 400][seed as usize % 4].to_string();
         let words = ["generate", "history", &seed.to_string(), sort, &ticks];
@@ -88,7 +90,7 @@ fn whole_pictures_are_what_they_were() {
     assert_eq!(digest(pictures), PICTURES);
 }
 
-const PICTURES: u64 = 0xb967_39c2_7e6c_9fed;
+const PICTURES: u64 = 0xf75c_29ac_725a_6722;
 
 /// A table without timers has the same picture in both editions, but for the words that say which.
 #[test]
@@ -103,6 +105,28 @@ fn edition_2_is_told() {
     let told = second.iter().position(|line| line.contains(">edition 2"));
     second.remove(told.expect("a line that tells it"));
     assert_eq!(first, second);
+}
+
+/// U2: a table with a delay has the same picture, but for the words that say so and for the bounds.
+#[test]
+fn delay_is_told() {
+    let told = |delay| -> Vec<String> {
+        let table = delayed(delay, &chain_of_two());
+        let picture = svg(&table, &play(&encode(&table), &played().ticks), &[]);
+        let lines = picture.lines().filter(|line| line.contains("late"));
+        lines.map(str::to_string).collect()
+    };
+    let line = |words: &str| format!(r#"<text x="180" y="146" text-anchor="end">{words}</text>"#);
+    assert!(told(0).is_empty());
+    assert_eq!(told(1), [line("supply late by up to 1 tick")]);
+    assert_eq!(told(60_000), [line("supply late by up to 60000 ticks")]);
+    let dues = |delay| {
+        let table = delayed(delay, &chain_of_two());
+        count(&svg(&table, &played(), &[]), &["<line", "#2e7d32"])
+    };
+    // Arrivals at 2 and 22, and 30 ticks: bounds of 5 and 8 end in them twice, that of 9 once, that
+    // of 32 never. Each sign has two lines, and one stands in the legend.
+    assert_eq!([0, 3, 4, 23].map(dues), [6, 6, 4, 2]);
 }
 
 /// The numbers above the polling points count timers in edition 2, and the line of such a point

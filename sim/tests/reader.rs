@@ -55,6 +55,11 @@ fn layout() {
     expected[0] = 2;
     assert_eq!(encode(&in_edition(2, &table)), expected);
     assert_eq!(read(&expected), Ok(in_edition(2, &table)));
+    // U2: Z with its low byte first, right behind H.
+    expected[8..10].copy_from_slice(&[9, 8]);
+    let late = delayed(2_057, &in_edition(2, &table));
+    assert_eq!(encode(&late), expected);
+    assert_eq!(read(&expected), Ok(late));
 }
 
 #[test]
@@ -102,8 +107,10 @@ fn one_and_sixteen_callbacks() {
 
 #[test]
 fn refusals_5_to_7() {
-    for at in 8..16 {
-        assert_eq!(written(at, 1), refused(5, 0));
+    for at in 10..16 {
+        for value in [1, 128, 255] {
+            assert_eq!(written(at, value), refused(5, 0));
+        }
     }
     let supply = |budget, period| read(&encode(&supplied(budget, period, chain().callbacks))).err();
     for (budget, period) in [
@@ -128,6 +135,55 @@ fn refusals_5_to_7() {
     ] {
         assert_eq!(written_word(6, horizon), outcome);
     }
+}
+
+/// U2: 0 to 60,000 in bytes 8 and 9, the low byte first.
+#[test]
+fn refusal_22() {
+    for (delay, outcome) in [
+        (0, None),
+        (1, None),
+        (59_999, None),
+        (60_000, None),
+        (60_001, refused(22, 0)),
+        (65_535, refused(22, 0)),
+    ] {
+        assert_eq!(written_word(8, delay), outcome);
+    }
+    // The high byte decides, and at 234 the low one too.
+    for (low, high, outcome) in [
+        (255, 0, None),
+        (0, 234, None),
+        (96, 234, None),
+        (97, 234, refused(22, 0)),
+        (234, 97, None),
+        (0, 235, refused(22, 0)),
+        (235, 0, None),
+    ] {
+        let mut bytes = encode(&chain());
+        bytes[8..10].copy_from_slice(&[low, high]);
+        let expected = delayed(u64::from(low) + 256 * u64::from(high), &chain());
+        assert_eq!(read(&bytes), outcome.map_or(Ok(expected), Err));
+    }
+}
+
+/// U2: 22 comes behind 5 and 6, and before 7 and all that a record can have.
+#[test]
+fn refusal_22_in_its_order() {
+    let mut bytes = encode(&chain());
+    let mut write = |at: usize, value: u8| {
+        bytes[at] = value;
+        read(&bytes).err()
+    };
+    assert_eq!(write(record(1), 0), refused(8, 1));
+    assert_eq!(write(7, 255), refused(7, 0));
+    assert_eq!(write(9, 255), refused(22, 0));
+    assert_eq!(write(2, 0), refused(6, 0));
+    assert_eq!(write(10, 1), refused(5, 0));
+    // And back again.
+    assert_eq!(write(10, 0), refused(6, 0));
+    assert_eq!(write(2, 1), refused(22, 0));
+    assert_eq!(write(9, 0), refused(7, 0));
 }
 
 #[test]

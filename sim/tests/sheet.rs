@@ -4,7 +4,9 @@ mod common;
 use common::*;
 use sim::generate::tables::{any_shape, table, Shape};
 use sim::random::Random;
-use sim::sheet::{analyse, arrivals, bound_literal, bounds, cost, supply, window, window_literal};
+use sim::sheet::{
+    analyse, arrivals, bound_literal, bounds, cost, delayed_supply, supply, window, window_literal,
+};
 use sim::table::{encode, Kind, Table};
 
 /// E(a(D)) of one callback.
@@ -21,18 +23,18 @@ fn finish(table: &Table, index: usize, offset: u64) -> u64 {
     };
     let own = demand(table, index, offset + 1);
     let mut lengths = 1..;
-    let covered =
-        |&length: &u64| supply(table.budget, table.period, length) >= own + needed(length);
+    let covered = |&length: &u64| delayed_supply(table, length) >= own + needed(length);
     lengths.find(covered).expect("a length")
 }
 
 #[test]
 fn faster_searches_agree_with_the_literal_ones() {
     let mut random = Random::new(3);
-    let mut compared = 0;
+    let (mut compared, mut late) = (0, 0);
     while compared < 400 {
         let mut table = table(&mut random, Shape::Small);
         table.horizon = random.range(1, 120);
+        table.delay = *random.pick(&[0, 1, 5, 20, 60]);
         assert_eq!(window(&table), window_literal(&table));
         if let Some(window) = window(&table) {
             let literal: Vec<u64> = (1..=table.count())
@@ -40,8 +42,10 @@ fn faster_searches_agree_with_the_literal_ones() {
                 .collect();
             assert_eq!(bounds(&table, window), literal);
             compared += 1;
+            late += u64::from(table.delay > 0);
         }
     }
+    assert!(late > 100);
 }
 
 /// Document 01, 'The sheet': every F(A) is a length in 1 to W.
@@ -51,6 +55,7 @@ fn finish_does_not_fall_and_stays_within_the_window() {
     for _ in 0..200 {
         let mut table = table(&mut random, Shape::Small);
         table.horizon = 100;
+        table.delay = random.range(0, 20);
         let Some(window) = window(&table) else {
             continue;
         };
@@ -78,6 +83,108 @@ fn same_sheet_in_both_editions() {
         accepted += u64::from(first.is_ok());
     }
     assert!(accepted > 200);
+}
+
+/// U2, supply: s at D - Z, 0 below Z; without a delay it is s.
+#[test]
+fn supply_is_late_by_the_delay() {
+    let at = |delay, budget, period, length| {
+        delayed_supply(&delayed(delay, &supplied(budget, period, vec![])), length)
+    };
+    for (budget, period) in [
+        (1, 1),
+        (5, 5),
+        (1, 2),
+        (2, 5),
+        (4, 5),
+        (1, 9),
+        (59_000, 60_000),
+    ] {
+        for delay in [0, 1, 2, 7, 30, 59_999, 60_000] {
+            for length in (0..60).chain([60_000, 119_999, 200_000]) {
+                let present = supply(budget, period, length);
+                assert_eq!(at(delay, budget, period, length + delay), present);
+            }
+            for length in [0, delay / 2, delay.max(1) - 1] {
+                assert_eq!(at(delay, budget, period, length), 0);
+            }
+        }
+    }
+    // P1 with Z = 3.
+    let late = [2, 3, 9, 10, 11, 14, 15, 20, 21].map(|length| at(3, 2, 5, length));
+    assert_eq!(late, [0, 0, 0, 1, 2, 2, 3, 5, 6]);
+    // Full supply: all but Z ticks, at once and for ever.
+    assert_eq!(
+        [3, 4, 5, 6, 1_000].map(|length| at(4, 1, 1, length)),
+        [0, 0, 1, 2, 996]
+    );
+}
+
+/// The paper's cases with a delay, reckoned by hand.
+#[test]
+fn cases_with_a_delay() {
+    let late = |delay, table: &Table| sheet(&delayed(delay, table));
+    let burst = |entries: &[u64]| full(vec![lone(Kind::Subscription, 10, 15, 2, entries)]);
+    // P4: the window ends before a fourth arrival at 16, or runs over it and needs four more ticks.
+    assert_eq!(late(3, &burst(&[4])), Ok((15, vec![10])));
+    assert_eq!(late(4, &burst(&[4])), Ok((20, vec![11])));
+    // P5: E(3) = 10.
+    assert_eq!(late(5, &burst(&[4, 6])), Ok((15, vec![10])));
+    assert_eq!(late(6, &burst(&[4, 6])), Ok((18, vec![11])));
+    // P6: both once, until the timer's second beat is in the window.
+    let pair = full(vec![timer(10, &[2]), subscription(20, &[3])]);
+    assert_eq!(late(5, &pair), Ok((10, vec![10, 10])));
+    assert_eq!(late(6, &pair), Ok((13, vec![11, 13])));
+    // P7: s(17) = 5.
+    let partial = supplied(2, 5, vec![timer(50, &[2]), subscription(100, &[3])]);
+    assert_eq!(late(4, &partial), Ok((21, vec![21, 21])));
+    // P8: at exact load a delay is never made good.
+    let exact = full(vec![subscription(2, &[2])]);
+    assert_eq!(late(1, &exact), Err(refusal(15, 0)));
+    // P9: the 256th arrival comes with a window above 600.
+    let crowd = full(vec![lone(Kind::Subscription, 200, 50_400, 1, &[2])]);
+    assert_eq!(late(90, &crowd).map(|(window, _)| window), Ok(600));
+    assert_eq!(late(91, &crowd), Err(refusal(16, 1)));
+}
+
+/// A window must lie within the horizon, so the largest delays leave none.
+#[test]
+fn largest_delays() {
+    let table = |delay, horizon| Table {
+        horizon,
+        ..delayed(delay, &full(vec![subscription(60_000, &[1])]))
+    };
+    assert_eq!(sheet(&table(59_999, 0)), Ok((60_000, vec![60_000])));
+    assert_eq!(sheet(&table(60_000, 0)), Err(refusal(15, 0)));
+    assert_eq!(sheet(&table(7, 8)), Ok((8, vec![8])));
+    assert_eq!(sheet(&table(8, 8)), Err(refusal(15, 0)));
+}
+
+/// Where lengths D serve with the delay, lengths D - Z serve without: window and bounds grow by the
+/// delay at least.
+#[test]
+fn delay_adds_itself_at_least() {
+    let mut random = Random::new(40);
+    let (mut same, mut more) = (0, 0);
+    for _ in 0..600 {
+        let mut table = table(&mut random, Shape::Small);
+        (table.horizon, table.delay) = (random.range(20, 600), random.range(1, 60));
+        let Some(late) = window(&table) else {
+            continue;
+        };
+        let without = delayed(0, &table);
+        let present = window(&without).expect("a window without the delay too");
+        assert!(late >= present + table.delay);
+        let pairs = bounds(&table, late)
+            .into_iter()
+            .zip(bounds(&without, present));
+        assert!(pairs
+            .clone()
+            .all(|(late, bound)| late >= bound + table.delay));
+        same += u64::from(late == present + table.delay);
+        more += u64::from(late > present + table.delay);
+    }
+    assert!(same > 20 && more > 100, "{same} {more}");
 }
 
 #[test]

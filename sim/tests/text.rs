@@ -121,7 +121,7 @@ fn binary_input() {
 fn binary_input_covers() {
     let frames: Vec<u8> = edges().iter().flat_map(|bytes| framed(bytes)).collect();
     let text = readings(&frames);
-    for number in 0..=14 {
+    for number in (0..=14).chain([22]) {
         assert!(text
             .lines()
             .any(|line| line.starts_with(&format!("{number} "))));

@@ -26,10 +26,11 @@ fn cost(callback: &Callback, count: u32) -> u64 {
 
 fn supply(table: &Table, length: u32) -> u64 {
     let (budget, period) = (u64::from(table.budget), u64::from(table.period));
-    let (gap, length) = (period - budget, u64::from(length));
-    if length < gap {
+    let (gap, delay) = (period - budget, u64::from(table.delay));
+    if u64::from(length) < delay + gap {
         return 0;
     }
+    let length = u64::from(length) - delay;
     let whole = (length - gap) / period;
     whole * budget + length.saturating_sub(2 * gap + whole * period)
 }

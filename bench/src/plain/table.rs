@@ -31,6 +31,7 @@ pub struct Table {
     pub budget: u16,
     pub period: u16,
     pub horizon: u16,
+    pub delay: u16,
     pub callbacks: [Callback; PLACES],
     /// Heads, one bit for each.
     pub heads: u16,
@@ -87,12 +88,16 @@ fn header(bytes: &[u8]) -> Result<Table, Refusal> {
     if bytes.len() != HEADER + RECORD * count {
         return Err(refuse(4, 0));
     }
-    if !zero(&bytes[8..HEADER]) {
+    if !zero(&bytes[10..HEADER]) {
         return Err(refuse(5, 0));
     }
-    let (budget, period, horizon) = (word(bytes, 2), word(bytes, 4), word(bytes, 6));
+    let (budget, period) = (word(bytes, 2), word(bytes, 4));
+    let (horizon, delay) = (word(bytes, 6), word(bytes, 8));
     if budget == 0 || budget > period || period > LARGEST {
         return Err(refuse(6, 0));
+    }
+    if delay > LARGEST {
+        return Err(refuse(22, 0));
     }
     if horizon > LARGEST {
         return Err(refuse(7, 0));
@@ -103,6 +108,7 @@ fn header(bytes: &[u8]) -> Result<Table, Refusal> {
         budget,
         period,
         horizon,
+        delay,
         callbacks: [Callback::default(); PLACES],
         heads: 0,
         kinds: [0; KINDS],

@@ -1,9 +1,10 @@
 -- Laws of the supply s(D): its whole periods lie within D (periods); it is 0 before the first gap has passed (supply-early), and then what suppliedPast says (supply-past).
+-- Behind a delay it is 0 before the delay has passed (delayed-early), and then s of what is left (delayed-past).
 use mathlib.Core.Path.{_≡_}
 use Prim.Native.Nat.{ℕ, _*_, _-_, _/_, _≤_, _<_}
 use native.Mathlib.Nat.{div-mul-le-self, mul-le-mul-left}
 use borrow.Author.Tests.{lt-ltb, le-ltb}
-use Rattle.curves.specs.Supply.{supply, suppliedPast}
+use Rattle.curves.specs.Supply.{supply, suppliedPast, delayedSupply}
 
 -- k whole periods lie between the first gap and D, and supply no more than they last
 pub periods : (budget period n : ℕ) → budget ≤ period → let k : ℕ = (n - (period - budget)) / period in (k * period ≤ n - (period - budget)) × (k * budget ≤ k * period)
@@ -16,3 +17,13 @@ supply-early budget period n h = rw (lt-ltb n (period - budget) h, supply)
 pub supply-past : (budget period n : ℕ) → period - budget ≤ n → supply budget period n ≡ suppliedPast budget period (period - budget) n
 unfolding supply
 supply-past budget period n h = rw (le-ltb n (period - budget) h, supply)
+
+-- ---- behind a delay
+
+pub delayed-early : (budget period delay n : ℕ) → n < delay → delayedSupply budget period delay n ≡ 0
+unfolding delayedSupply
+delayed-early budget period delay n h = rw (lt-ltb n delay h, delayedSupply)
+
+pub delayed-past : (budget period delay n : ℕ) → delay ≤ n → delayedSupply budget period delay n ≡ supply budget period (n - delay)
+unfolding delayedSupply
+delayed-past budget period delay n h = rw (le-ltb n delay h, delayedSupply)

@@ -1,4 +1,5 @@
--- Supply, at least (document 01, 'Curves': the periodic resource model cited by 003).
+-- Supply, at least (document 01, 'Curves': the periodic resource model cited by 003), and behind a start delay (document 02, U2).
+-- delayedSupply is the curve that the sheet and the guarantee rest on; nothing but it asks for supply.
 use mathlib.Core.Bool.{true, false}
 use Prim.Native.Nat.{ℕ, _+_, _*_, _-_, _/_}
 use lib.Dec.{ltb}
@@ -12,3 +13,7 @@ unfoldable pub supply : ℕ → ℕ → ℕ → ℕ
 supply budget period n =
     let g : ℕ = period - budget in
     elim (ltb n g) [ true ↦ 0 | false ↦ suppliedPast budget period g n ]
+
+-- the supply of a table, of Q, P and Z: s(D - Z), and 0 for D below Z
+unfoldable pub delayedSupply : ℕ → ℕ → ℕ → ℕ → ℕ
+delayedSupply budget period delay n = elim (ltb n delay) [ true ↦ 0 | false ↦ supply budget period (n - delay) ]

@@ -7,7 +7,7 @@ ghost use Rattle.numbers.specs.Numbers.{longest};
 ghost use Rattle.curves.specs.Parts.{maxLength};
 ghost use Rattle.curves.specs.Arrivals.{arrivals as arrivalsOf};
 ghost use Rattle.curves.specs.Cost.{cost as costOf};
-ghost use Rattle.curves.specs.Supply.{supply as supplyOf};
+ghost use Rattle.curves.specs.Supply.{delayedSupply};
 
 // a(length): the activations of a head in any window of that many ticks, at most; 0 for no ticks, whatever the jitter.
 pub fn arrivals(period: u32, jitter: u32, distance: u32, length: u32) -> u32
@@ -40,14 +40,17 @@ pub fn cost(entries: [u16; 8], used: u8, count: u32) -> u64
     whole + entries[left - 1] as u64
 }
 
-// s(length): the supplied ticks of any window of that many ticks, at least.
-pub fn supply(budget: u32, period: u32, length: u32) -> u64
+// The supplied ticks of any window of that many ticks, at least: s(length - delay), and 0 for a length below the delay.
+pub fn supply(budget: u32, period: u32, delay: u32, length: u32) -> u64
     requires { ⌜ (0 < budget) × (budget ≤ period) × (period ≤ longest) × (length ≤ maxLength) ⌝ }
-    ensures { λ r. ⌜ (r ≡ supplyOf budget period length) × (r ≤ length) ⌝ }
+    ensures { λ r. ⌜ (r ≡ delayedSupply budget period delay length) × (r ≤ length) ⌝ }
 {
+    if length < delay {
+        return 0;
+    }
     let q = budget as u64;
     let p = period as u64;
-    let d = length as u64;
+    let d = (length - delay) as u64;
     let gap = p - q;
     if d < gap {
         return 0;

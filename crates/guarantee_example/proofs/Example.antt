@@ -1,4 +1,4 @@
--- The claim is not empty: the tables and histories of specs/Example, one of each edition, meet its premises, by computation, so its conclusions hold of them.
+-- The claim is not empty: the tables and histories of specs/Example, one of each edition and one behind a delay, meet its premises, by computation, so its conclusions hold of them.
 --   Computed, computed   what the definitions compute: results, row, that the history is within the curves, and the completion that meets a bound
 --   guaranteed, in-time  the guarantee of such a history, and the completion it has promised; `meets` in Computed says that this one comes at its bound, to the tick
 use mathlib.Core.Path.{_≡_, refl, subst}
@@ -18,7 +18,7 @@ use Rattle.ranges.proofs.EveryLaws.{holds}
 use Rattle.numbers.specs.Numbers.{mostTicks}
 use Rattle.curves.specs.Arrivals.{ceiling, arrivals}
 use Rattle.curves.specs.Cost.{cost}
-use Rattle.curves.specs.Supply.{supply}
+use Rattle.curves.specs.Supply.{supply, delayedSupply}
 use Rattle.curves.specs.Demand.{limit}
 use Rattle.table.specs.Values.{horizonOf}
 use Rattle.table.specs.Walk.{walk}
@@ -43,7 +43,7 @@ use Rattle.guarantee.specs.History.{Result, results, tickAt, resultAt, complete
 use Rattle.guarantee.specs.Within.{WithinCurves}
 use Rattle.guarantee.specs.Claim.{Guaranteed}
 use Rattle.guarantee.proofs.Guarantee.{guarantee}
-use Rattle.guarantee_example.specs.Example.{Case, one, two}
+use Rattle.guarantee_example.specs.Example.{Case, one, two, delayed}
 use Rattle.guarantee_example.proofs.Decide.{everyWindow, arrivalsHold, supplyHolds, costsHold, headsHold, offerHolds, withinTest, decided}
 
 -- a row of sixteen places, as the host lends it
@@ -71,10 +71,11 @@ pub record Computed (c : Case) : Type 0 where
   -- the completion comes at the bound
   pub meets : completion (c .says) (c .slot) (c .nth) (due c)
 
--- all of it by computation, of both
-pub computed : Computed one × Computed two
-unfolding has withBit withoutBit gather countOf numbers run zeros fieldsAt fieldBytes over sum least largest every some ceiling arrivals cost supply limit horizonOf walk linked named isHead onLoop nextAfter foreign foremostFrom feeder headFrom headOf arrivalsFault linksFault headFault supplyFault entriesFault unusedFault recordFault recordsFrom bodyFault faultOf recordAt spareAt recordsTo tableAt sparesAt wholeFault readFault readOf covered coveredFor window finish bound arrivalsOf costOf supplyOf windowOf boundOf tooManyAt sheetFault analysisFault boundsTo rowOf arrivedTo arrived counted fullWith polled gatheredOf choose turnOf stepOf tableFault beyondWrong countWrong cacheWrong slotWrong runWrong fresh faulty unsupplied instanceAt left served effect full tickFault refused tickOf startOf results tickAt resultAt completesAt releasesAt releasedBy activatedAt activations activation startsAt completions completion one two everyWindow arrivalsHold supplyHolds costsHold headsHold offerHolds withinTest
+-- all of it by computation, of each
+pub computed : Computed one × Computed two × Computed delayed
+unfolding has withBit withoutBit gather countOf numbers run zeros fieldsAt fieldBytes over sum least largest every some ceiling arrivals cost supply delayedSupply limit horizonOf walk linked named isHead onLoop nextAfter foreign foremostFrom feeder headFrom headOf arrivalsFault linksFault headFault supplyFault entriesFault unusedFault recordFault recordsFrom bodyFault faultOf recordAt spareAt recordsTo tableAt sparesAt wholeFault readFault readOf covered coveredFor window finish bound arrivalsOf costOf supplyOf windowOf boundOf tooManyAt sheetFault analysisFault boundsTo rowOf arrivedTo arrived counted fullWith polled gatheredOf choose turnOf stepOf tableFault beyondWrong countWrong cacheWrong slotWrong runWrong fresh faulty unsupplied instanceAt left served effect full tickFault refused tickOf startOf results tickAt resultAt completesAt releasesAt releasedBy activatedAt activations activation startsAt completions completion one two delayed everyWindow arrivalsHold supplyHolds costsHold headsHold offerHolds withinTest
 computed = (
+  record { replied = refl; accepted = refl; written = refl; within = refl; short = tt; known = tt; activated = (tt, refl); reached = tt; meets = (tt, refl) },
   record { replied = refl; accepted = refl; written = refl; within = refl; short = tt; known = tt; activated = (tt, refl); reached = tt; meets = (tt, refl) },
   record { replied = refl; accepted = refl; written = refl; within = refl; short = tt; known = tt; activated = (tt, refl); reached = tt; meets = (tt, refl) },
 )
@@ -108,3 +109,12 @@ in-time-two = in-time two (computed .1)
 pub tight-two : completion (two .says) 0 2 9
 unfolding two
 tight-two = computed .1 .meets
+
+-- behind a delay: the subscription's first completion is there at 10 or earlier, and it is at 10
+pub in-time-delayed : (t : ℕ) × (t ≤ 10) × completion (delayed .says) 1 1 t
+unfolding delayed
+in-time-delayed = in-time delayed (computed .2)
+
+pub tight-delayed : completion (delayed .says) 1 1 10
+unfolding delayed
+tight-delayed = computed .2 .meets

@@ -1,9 +1,12 @@
--- A table and a history within its curves for each edition, as data: the claim is empty for neither (proofs/Example).
+-- A table and a history within its curves for each edition, and one behind a delay, as data: the claim is empty for none of them (proofs/Example).
 -- Edition 1: supply of 4 ticks in 5; a timer (T 14, J 8, d 6, entry 2), a subscription (T 17, J 12, d 8, entries 2, 3) and a service that it activates (entry 1).
 -- The window is 13, the bounds are 8, 11 and 11. The service finishes for the first time at 13, its head's activation being at 2: just the bound.
 -- Edition 2: the same supply; a timer (T 12, J 14, d 3, entry 2) and two subscriptions (T 29, J 5, d 7, entry 1; T 25, J 9, d 11, entries 1, 2).
 -- The window is 9, the bounds are 6, 9 and 9. The timer's second activation, at 3, finds both subscriptions in the cache; it waits until they have run and
 -- a polling point takes it at 7, and finishes at 9: just the bound. In edition 1 it would have run at 4.
+-- Behind a delay of 3: the same supply, so 3 + 2 × (5 - 4) = 5 ticks without any at worst; a timer (T 30, d 30, entry 2) and a subscription that it activates
+-- (entry 1). The window is 8, the bounds are 8 and 8. These 5 ticks begin with the timer's activation at 2, with the supply untouched before; the subscription
+-- finishes at 10: just the bound. Without the delay the history would not be within the curves, and the window and the bounds would be 5.
 use mathlib.Core.Bool.{true, false}
 use mathlib.Core.List.{List, [], _∷_, _++_}
 use Prim.Native.Nat.{ℕ}
@@ -28,9 +31,9 @@ abbrev callback : ℕ → ℕ → ℕ → ℕ → ℕ → ℕ → ℕ → ℕ �
 callback kind next m T J d e₁ e₂ =
     kind ∷ next ∷ m ∷ 0 ∷ T ∷ 0 ∷ J ∷ 0 ∷ d ∷ 0 ∷ 0 ∷ 0 ∷ e₁ ∷ 0 ∷ e₂ ∷ 0 ∷ replicate 16 0
 
--- edition and callbacks, with Q 4, P 5 and H 60
-abbrev header : ℕ → ℕ → List ℕ
-header edition n = edition ∷ n ∷ 4 ∷ 0 ∷ 5 ∷ 0 ∷ 60 ∷ 0 ∷ replicate 8 0
+-- edition, callbacks and Z, with Q 4, P 5 and H 60
+abbrev header : ℕ → ℕ → ℕ → List ℕ
+header edition n Z = edition ∷ n ∷ 4 ∷ 0 ∷ 5 ∷ 0 ∷ 60 ∷ 0 ∷ Z ∷ 0 ∷ replicate 6 0
 
 -- a supplied tick with its mask and cost, and one without supply
 abbrev on : ℕ → ℕ → Tick
@@ -65,7 +68,7 @@ polls-ends i k g = record { outcome = Answered (Finished i k); started = true; p
 -- the timer is activated at 2, 8 and 22, the subscription at 2, 10 and 24
 unfoldable pub one : Case
 one = record {
-  bytes = header 1 3 ++ (callback 1 0 1 14 8 6 2 0 ++ (callback 2 3 2 17 12 8 2 3 ++ callback 3 0 1 0 0 0 1 0));
+  bytes = header 1 3 0 ++ (callback 1 0 1 14 8 6 2 0 ++ (callback 2 3 2 17 12 8 2 3 ++ callback 3 0 1 0 0 0 1 0));
   ticks =
       on 0 1 ∷ on 0 1 ∷ off 3 ∷ off 0 ∷ on 0 2 ∷ on 0 1 ∷ on 0 2 ∷ on 0 1 ∷ off 1 ∷ on 0 2
       ∷ on 2 1 ∷ on 0 1 ∷ on 0 1 ∷ off 0 ∷ on 0 1 ∷ on 0 1 ∷ on 0 1 ∷ on 0 1 ∷ off 0 ∷ on 0 1
@@ -85,7 +88,7 @@ one = record {
 -- the timer is activated at 0, 3 and 10, the subscriptions at 0 and 1; the first polling point takes all three
 unfoldable pub two : Case
 two = record {
-  bytes = header 2 3 ++ (callback 1 0 1 12 14 3 2 0 ++ (callback 2 0 1 29 5 7 1 0 ++ callback 2 0 2 25 9 11 1 2));
+  bytes = header 2 3 0 ++ (callback 1 0 1 12 14 3 2 0 ++ (callback 2 0 1 29 5 7 1 0 ++ callback 2 0 2 25 9 11 1 2));
   ticks =
       off 3 ∷ off 4 ∷ on 0 2 ∷ on 1 1 ∷ on 0 1 ∷ on 0 1 ∷ off 0 ∷ on 0 2 ∷ on 0 1 ∷ on 0 1
       ∷ on 1 2 ∷ off 0 ∷ on 0 1 ∷ on 0 1
@@ -98,4 +101,16 @@ two = record {
   slot = 0;
   nth = 2;
   activated = 3;
+}
+
+-- the timer is activated at 2, in the first of five ticks without supply
+unfoldable pub delayed : Case
+delayed = record {
+  bytes = header 1 2 3 ++ (callback 1 2 1 30 0 30 2 0 ++ callback 2 0 1 0 0 0 1 0);
+  ticks = on 0 1 ∷ on 0 1 ∷ off 1 ∷ off 0 ∷ off 0 ∷ off 0 ∷ off 0 ∷ on 0 2 ∷ on 0 1 ∷ on 0 1 ∷ on 0 1 ∷ on 0 1 ∷ [];
+  says = idle ∷ idle ∷ none ∷ none ∷ none ∷ none ∷ none ∷ starts 1 1 ∷ ends 1 1 ∷ polls-ends 2 1 1 ∷ idle ∷ idle ∷ [];
+  row = 8 ∷ 8 ∷ replicate 14 0;
+  slot = 1;
+  nth = 1;
+  activated = 2;
 }

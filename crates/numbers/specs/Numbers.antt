@@ -15,7 +15,7 @@ headerLength = 16
 abbrev pub recordLength : ℕ
 recordLength = 32
 
--- the largest period, jitter, horizon, cost entry and cost, in ticks; and the horizon of a table that leaves H at 0
+-- the largest period, delay, jitter, horizon, cost entry and cost, in ticks; and the horizon of a table that leaves H at 0
 abbrev pub longest : ℕ
 longest = 60000
 
@@ -67,6 +67,9 @@ spareNotZero = 5
 
 abbrev pub wrongSupply : ℕ
 wrongSupply = 6
+
+abbrev pub wrongDelay : ℕ
+wrongDelay = 22
 
 abbrev pub wrongHorizon : ℕ
 wrongHorizon = 7

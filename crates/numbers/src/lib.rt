@@ -10,7 +10,7 @@ pub const HEADER_LENGTH: usize = 16;
 
 pub const RECORD_LENGTH: usize = 32;
 
-// The largest period, jitter, horizon, cost entry and cost, in ticks; and the horizon of a table that leaves H at 0.
+// The largest period, delay, jitter, horizon, cost entry and cost, in ticks; and the horizon of a table that leaves H at 0.
 pub const LONGEST: u16 = 60000;
 
 pub const DEFAULT_HORIZON: u16 = 60000;
@@ -46,6 +46,8 @@ pub const WRONG_LENGTH: u8 = 4;
 pub const SPARE_NOT_ZERO: u8 = 5;
 
 pub const WRONG_SUPPLY: u8 = 6;
+
+pub const WRONG_DELAY: u8 = 22;
 
 pub const WRONG_HORIZON: u8 = 7;
 

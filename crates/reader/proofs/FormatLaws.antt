@@ -54,11 +54,11 @@ module _ (b : List ℕ) (i : ℕ) (t : Table) (so : t ≡ headless (recordsTo b 
   unfolding recordsTo
   records-more c f = ap₂ (λ (u : Table) (d : Callback). withCallbacks u (set (u .callbacks) i d)) so f ∙ ap (λ (k : ℕ). headless (recordsTo b k)) (sym (add-one i))
 
-  pub table-whole : (q p h : ℕ) → i ≡ getD b 1 0 → q ≡ get 2 b 2 → p ≡ get 2 b 4 → h ≡ get 2 b 6
-      → tableOf (getD b 0 0 ∷ getD b 1 0 ∷ []) (q ∷ p ∷ h ∷ []) (t .callbacks) ≡ tableAt b
+  pub table-whole : (q p h z : ℕ) → i ≡ getD b 1 0 → q ≡ get 2 b 2 → p ≡ get 2 b 4 → h ≡ get 2 b 6 → z ≡ get 2 b 8
+      → tableOf (getD b 0 0 ∷ getD b 1 0 ∷ []) (q ∷ p ∷ h ∷ z ∷ []) (t .callbacks) ≡ tableAt b
   unfolding tableAt fieldsAt numbers
-  table-whole q p h f eq ep eh =
-      simp (eq, ep, eh) (ap (tableOf (getD b 0 0 ∷ getD b 1 0 ∷ []) (get 2 b 2 ∷ get 2 b 4 ∷ get 2 b 6 ∷ [])) (ap (λ (u : Table). u .callbacks) so ∙ ap (recordsTo b) f))
+  table-whole q p h z f eq ep eh ez =
+      simp (eq, ep, eh, ez) (ap (tableOf (getD b 0 0 ∷ getD b 1 0 ∷ []) (get 2 b 2 ∷ get 2 b 4 ∷ get 2 b 6 ∷ get 2 b 8 ∷ [])) (ap (λ (u : Table). u .callbacks) so ∙ ap (recordsTo b) f))
 
 -- ---- the reader
 

@@ -58,7 +58,7 @@ module _ (t : Table) (w : Writable t) where
   fit-header = (
     refl,
     (omega (arith, so .edition-to), (omega (arith, so .few), tt)),
-    (refl, (omega (arith, so .budget-le, so .period-le), (omega (arith, so .period-le), (omega (arith, so .horizon-le), tt))), (refl, below-zeros 256 8 (omega arith), tt)),
+    (refl, (omega (arith, so .budget-le, so .period-le), (omega (arith, so .period-le), (omega (arith, so .horizon-le), (omega (arith, so .delay-le), tt)))), (refl, below-zeros 256 6 (omega arith), tt)),
   )
 
   -- the header, with what follows it
@@ -199,7 +199,7 @@ module _ (t : Table) (w : Writable t) where
 
     header-spare : headerClear b ≡ true
     unfolding fieldsAt
-    header-spare = numbers-zeros b 0 8 8 (ap (λ (vs : List (List ℕ)). fieldOf vs 2) fields-header)
+    header-spare = numbers-zeros b 0 10 6 (ap (λ (vs : List (List ℕ)). fieldOf vs 2) fields-header)
 
   -- and accepted
   pub readFault-written : readFault (written t) ≡ accepted
@@ -224,7 +224,7 @@ module _ (b : List ℕ) (ok : (readFault b) .number ≡ 0) where
     header-again : fieldBytes headerFields (headerNumbers (tableAt b)) ≡ take headerLength b
     unfolding tableAt fieldsAt numbers
     header-again =
-        ap (λ (x : List ℕ). fieldBytes headerFields (numbers 1 b 0 0 2 ∷ numbers 2 b 0 2 3 ∷ x ∷ [])) (sym (zeros-numbers b 0 8 8 (not-false _ (read-passed b ok .body .clear))))
+        ap (λ (x : List ℕ). fieldBytes headerFields (numbers 1 b 0 0 2 ∷ numbers 2 b 0 2 4 ∷ x ∷ [])) (sym (zeros-numbers b 0 10 6 (not-false _ (read-passed b ok .body .clear))))
         ∙ fields-again headerFields b 0 0 bytes (read-passed b ok .long)
 
     -- the record from byte k on

@@ -16,9 +16,9 @@ use Rattle.table.specs.Values.{refuse, orElse, callbackOf, tableOf, blank, blan
 use Rattle.rules.specs.Rules.{headFault, bodyFault}
 use Rattle.reader.specs.declared.Reading.{Reading}
 
--- edition and count; Q, P and H; eight spare bytes
+-- edition and count; Q, P, H and Z; six spare bytes
 abbrev pub headerFields : List Field
-headerFields = field 1 2 ∷ field 2 3 ∷ field 1 8 ∷ []
+headerFields = field 1 2 ∷ field 2 4 ∷ field 1 6 ∷ []
 
 -- kind, next and m; a spare byte; T, J and d; two spare bytes; the eight entries; four spare bytes
 abbrev pub recordFields : List Field
@@ -38,7 +38,7 @@ spareAt b k = not (zeros b (k + 3) 1 && (zeros b (k + 10) 2 && zeros b (k + 28) 
 
 -- whether the header's spare bytes are zero
 abbrev pub headerClear : List ℕ → Bool
-headerClear b = zeros b 8 8
+headerClear b = zeros b 10 6
 
 -- where the record of a slot begins
 abbrev pub recordStart : ℕ → ℕ

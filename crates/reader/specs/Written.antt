@@ -10,7 +10,7 @@ use Rattle.reader.specs.Format.{headerFields, recordFields}
 
 -- what stands in the fields of a header, and of a record
 abbrev pub headerNumbers : Table → List (List ℕ)
-headerNumbers t = tableBytes t ∷ tableTicks t ∷ replicate 8 0 ∷ []
+headerNumbers t = tableBytes t ∷ tableTicks t ∷ replicate 6 0 ∷ []
 
 abbrev pub recordNumbers : Callback → List (List ℕ)
 recordNumbers c = callbackBytes c ∷ replicate 1 0 ∷ callbackTicks c ∷ replicate 2 0 ∷ c .entries ∷ replicate 4 0 ∷ []

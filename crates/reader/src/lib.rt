@@ -108,6 +108,7 @@ fn table_at(b: &[u8]) -> Table
     t.budget = lent::get_u16(b, 2);
     t.period = lent::get_u16(b, 4);
     t.horizon = lent::get_u16(b, 6);
+    t.delay = lent::get_u16(b, 8);
     t
 }
 
@@ -138,7 +139,7 @@ pub fn read(bytes: &[u8]) -> Reading
         return refusing(refused(WRONG_LENGTH, 0));
     }
     let t = table_at(bytes);
-    let spare = !lent::all_zero(bytes, 8, 16);
+    let spare = !lent::all_zero(bytes, 10, 16);
     let r = body_fault(t, spare, spares_at(bytes));
     if r.number != 0 {
         return refusing(r);

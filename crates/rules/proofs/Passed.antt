@@ -1,5 +1,5 @@
 -- What a table without faults has passed, test by test. Assumes nothing.
--- HeadPassed, RecordPassed, LinksPassed, BodyPassed: what 2 and 3, one record, 11 to 14, and 5 to 14 leave; head-passed, record-passed, links-passed, body-passed.
+-- HeadPassed, RecordPassed, LinksPassed, BodyPassed: what 2 and 3, one record, 11 to 14, and 5 to 14 with 22 leave; head-passed, record-passed, links-passed, body-passed.
 -- head-accepted, body-accepted: what has passed is accepted with index 0. records-known: no record names a callback beyond n. fault-passed, fault-accepted: of a table given as values.
 use mathlib.Core.Path.{_≡_, refl, ap, _∙_, subst}
 use mathlib.Core.Logic.{_⊎_, inl, inr, _≢_}
@@ -148,6 +148,7 @@ links-accepted t l = lowest-passed _ _ _ (l .once) ∙ lowest-passed _ _ _ (l .t
 pub record BodyPassed (spare : Bool) (spares : ℕ) (t : Table) : Type 0 where
   pub clear : spare ≡ false
   pub supply : supplyFault (t .budget) (t .period) ≡ false
+  pub delay : t .delay ≤ Numbers.longest
   pub horizon : t .horizon ≤ Numbers.longest
   pub records : (i : ℕ) → i < t .count → RecordPassed (t .count) (callbackAt t i) (has spares i)
   pub links : LinksPassed t
@@ -158,12 +159,14 @@ module _ (spare : Bool) (spares : ℕ) (t : Table) where
   body-passed e =
       let one = test-zero spare Numbers.spareNotZero 0 _ (λ z. omega arith) e in
       let two = test-zero (supplyFault (t .budget) (t .period)) Numbers.wrongSupply 0 _ (λ z. omega arith) (one .1) in
-      let three = test-zero (ltb Numbers.longest (t .horizon)) Numbers.wrongHorizon 0 _ (λ z. omega arith) (two .1) in
-      let rest = both-passed (recordsFrom spares t (t .count) 0) (linksFault t) (three .1) in
+      let three = test-zero (ltb Numbers.longest (t .delay)) Numbers.wrongDelay 0 _ (λ z. omega arith) (two .1) in
+      let four = test-zero (ltb Numbers.longest (t .horizon)) Numbers.wrongHorizon 0 _ (λ z. omega arith) (three .1) in
+      let rest = both-passed (recordsFrom spares t (t .count) 0) (linksFault t) (four .1) in
       record {
         clear = one .0;
         supply = two .0;
-        horizon = ltb-false Numbers.longest (t .horizon) (three .0);
+        delay = ltb-false Numbers.longest (t .delay) (three .0);
+        horizon = ltb-false Numbers.longest (t .horizon) (four .0);
         records = records-passed spares t (rest .0);
         links = links-passed t (rest .1);
       }
@@ -171,7 +174,7 @@ module _ (spare : Bool) (spares : ℕ) (t : Table) where
   pub body-accepted : BodyPassed spare spares t → bodyFault spare spares t ≡ accepted
   unfolding bodyFault
   body-accepted p =
-      simp (p .clear, p .supply, le-ltb Numbers.longest (t .horizon) (p .horizon))
+      simp (p .clear, p .supply, le-ltb Numbers.longest (t .delay) (p .delay), le-ltb Numbers.longest (t .horizon) (p .horizon))
       (first-passed _ _ (ap numberOf (records-all spares t (t .count) 0 (λ j l m. p .records j (omega arith)))) ∙ links-accepted t (p .links))
 
 -- ---- a table given as values
@@ -189,6 +192,7 @@ module _ (t : Table) where
   fault-accepted spare spares h p = first-passed _ _ h ∙ body-accepted false 0 t (record {
     clear = refl;
     supply = p .supply;
+    delay = p .delay;
     horizon = p .horizon;
     records = λ i l. (let r = p .records i l in record { kind = r .kind; next = r .next; entries = r .entries; unused = r .unused; clear = has-zero i });
     links = p .links;

@@ -127,6 +127,7 @@ sound t ok =
       budget-some = supplied .0;
       budget-le = supplied .1;
       period-le = supplied .2;
+      delay-le = body .delay;
       horizon-le = body .horizon;
       kind-from = λ i l. within-passed timer client (kindOf t i) (body .records i l .kind) .0;
       kind-to = λ i l. within-passed timer client (kindOf t i) (body .records i l .kind) .1;

@@ -21,6 +21,7 @@ pub record Sound (t : Table) : Type 0 where
   pub budget-some : 0 < t .budget
   pub budget-le : t .budget ≤ t .period
   pub period-le : t .period ≤ longest
+  pub delay-le : t .delay ≤ longest
   pub horizon-le : t .horizon ≤ longest
   -- the record of each slot
   pub kind-from : (i : ℕ) → i < t .count → timer ≤ kindOf t i

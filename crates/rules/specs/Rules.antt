@@ -1,5 +1,5 @@
--- Refusals 2 to 14 over a table's values, first match (document 01, 'Where each refusal is tested').
--- headFault: 2 and 3, which the reader tests before it knows the length that a table must have. bodyFault: 5 to 14; what only bytes can show comes in
+-- Refusals 2 to 14 and 22 over a table's values, first match (document 01, 'Where each refusal is tested').
+-- headFault: 2 and 3, which the reader tests before it knows the length that a table must have. bodyFault: 5 to 14 and 22; what only bytes can show comes in
 -- as two tests, a spare byte of the header not zero and the records with one. faultOf: both, of a table given as values.
 use mathlib.Core.Bool.{Bool, false, cond, not, _&&_, _||_}
 use Prim.Native.Nat.{ℕ, zero, suc}
@@ -50,13 +50,14 @@ recordsFrom spares t zero i = accepted
 recordsFrom spares t (suc k) i =
     elim (recordFault (t .count) (callbackAt t i) (has spares i)) [ zero ↦ recordsFrom spares t k (suc i) | suc x ↦ refuse (suc x) (suc i) ]
 
--- 5 of the header, 6, 7, the records, 11 to 14
+-- 5 of the header, 6, 22 (U2 of document 02), 7, the records, 11 to 14
 unfoldable pub bodyFault : Bool → ℕ → Table → Refusal
 bodyFault spare spares t =
     cond spare (refuse Numbers.spareNotZero 0)
     (cond (supplyFault (t .budget) (t .period)) (refuse Numbers.wrongSupply 0)
+    (cond (ltb Numbers.longest (t .delay)) (refuse Numbers.wrongDelay 0)
     (cond (ltb Numbers.longest (t .horizon)) (refuse Numbers.wrongHorizon 0)
-    (orElse (recordsFrom spares t (t .count) 0) (linksFault t))))
+    (orElse (recordsFrom spares t (t .count) 0) (linksFault t)))))
 
 -- what is wrong with a table given as values
 unfoldable pub faultOf : Table → Refusal

@@ -1,4 +1,4 @@
-// What is wrong with a table's values: refusals 2 to 14, first match.
+// What is wrong with a table's values: refusals 2 to 14 and 22, first match.
 // What only bytes can show is tested by the reader (4) or comes in beside the table (5).
 
 use link_rules::links_fault;
@@ -12,6 +12,7 @@ use numbers::SPARE_NOT_ZERO;
 use numbers::TIMER;
 use numbers::UNKNOWN_EDITION;
 use numbers::WRONG_COUNT;
+use numbers::WRONG_DELAY;
 use numbers::WRONG_ENTRIES;
 use numbers::WRONG_HORIZON;
 use numbers::WRONG_KIND;
@@ -153,6 +154,9 @@ pub fn body_fault(t: Table, spare: bool, spares: u16) -> Refusal
     }
     if supply_fault(t.budget, t.period) {
         return refused(WRONG_SUPPLY, 0);
+    }
+    if t.delay > LONGEST {
+        return refused(WRONG_DELAY, 0);
     }
     if t.horizon > LONGEST {
         return refused(WRONG_HORIZON, 0);

@@ -49,7 +49,7 @@ abbrev pub tableBytes : Table → List ℕ
 tableBytes t = t .edition ∷ t .count ∷ []
 
 abbrev pub tableTicks : Table → List ℕ
-tableTicks t = t .budget ∷ t .period ∷ t .horizon ∷ []
+tableTicks t = t .budget ∷ t .period ∷ t .horizon ∷ t .delay ∷ []
 
 abbrev pub tableOf : List ℕ → List ℕ → List Callback → Table
 tableOf bytes ticks cs =
@@ -59,6 +59,7 @@ tableOf bytes ticks cs =
       budget = getD ticks 0 0;
       period = getD ticks 1 0;
       horizon = getD ticks 2 0;
+      delay = getD ticks 3 0;
       callbacks = cs;
     }
 

@@ -42,6 +42,7 @@ pub struct Table {
     pub budget: u16,
     pub period: u16,
     pub horizon: u16,
+    pub delay: u16,
     pub callbacks: [Callback; 16],
 }
 
@@ -70,6 +71,7 @@ pub fn blank() -> Table
         budget: 0,
         period: 0,
         horizon: 0,
+        delay: 0,
         callbacks: [place; 16],
     }
 }

@@ -2,7 +2,7 @@
 use Prim.Native.Nat.{ℕ}
 use Rattle.curves.specs.Arrivals.{arrivals}
 use Rattle.curves.specs.Cost.{cost}
-use Rattle.curves.specs.Supply.{supply}
+use Rattle.curves.specs.Supply.{delayedSupply}
 use Rattle.table.specs.declared.Callback.{Callback}
 use Rattle.table.specs.declared.Table.{Table}
 use Rattle.table.specs.Values.{callbackAt, entriesOf, horizonOf}
@@ -17,9 +17,9 @@ arrivalsOf t i = let c : Callback = callbackAt t (headOf t i) in arrivals (c .pe
 unfoldable pub costOf : Table → ℕ → ℕ → ℕ
 costOf t i = cost (entriesOf (callbackAt t i))
 
--- s of the table
+-- the supply of the table, behind its delay
 unfoldable pub supplyOf : Table → ℕ → ℕ
-supplyOf t = supply (t .budget) (t .period)
+supplyOf t = delayedSupply (t .budget) (t .period) (t .delay)
 
 -- W, 0 where there is none
 unfoldable pub windowOf : Table → ℕ

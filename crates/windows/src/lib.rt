@@ -75,7 +75,7 @@ fn supply(t: Table, length: u32) -> u64
     requires { ⌜ Sound t × (length ≤ maxLength) ⌝ }
     ensures { λ r. ⌜ r ≡ supplyOf t length ⌝ }
 {
-    curves::supply(t.budget as u32, t.period as u32, length)
+    curves::supply(t.budget as u32, t.period as u32, t.delay as u32, length)
 }
 
 // W: the least length in 1 to the horizon whose supply covers the demand of all callbacks; 0 where there is none.

@@ -1,5 +1,5 @@
 -- The tables of document 01's worked cases, and the numbers of their sheets, read from the tables' bytes as the analyser reads them.
--- What a case leaves out has the value that the section states for it: edition 1, kind 2, and 0 for H, J and next; full supply is Q = P = 1.
+-- What a case leaves out has the value that the section states for it: edition 1, kind 2, and 0 for H, Z, J and next; full supply is Q = P = 1.
 use mathlib.Core.List.{List, [], _∷_, _++_}
 use Prim.Native.Nat.{ℕ, _-_}
 use lib.ListN.{length, take, replicate}
@@ -24,7 +24,7 @@ callback = ofKind 2
 
 -- a table with Q, P and its callbacks
 abbrev pub ofSupply : ℕ → ℕ → List Callback → Table
-ofSupply Q P cs = tableOf (editionOne ∷ length cs ∷ []) (Q ∷ P ∷ 0 ∷ []) cs
+ofSupply Q P cs = tableOf (editionOne ∷ length cs ∷ []) (Q ∷ P ∷ 0 ∷ 0 ∷ []) cs
 
 abbrev pub fullSupply : List Callback → Table
 fullSupply = ofSupply 1 1

@@ -7,7 +7,7 @@ use Prim.Native.Nat.{ℕ}
 use lib.Dec.{eqb}
 use Rattle.curves.specs.Arrivals.{arrivals}
 use Rattle.curves.specs.Cost.{cost}
-use Rattle.curves.specs.Supply.{supply}
+use Rattle.curves.specs.Supply.{delayedSupply}
 use Rattle.table.specs.declared.Callback.{Callback}
 use Rattle.table.specs.declared.Table.{Table}
 use Rattle.worked.specs.Sheets.{ofSupply, fullSupply, callback, timer, sheet, bounds, arrivalsInWindow}
@@ -39,8 +39,8 @@ ticks0to6 =
 
 unfoldable pub table : List Case
 table =
-    -- s of a supply of 2 ticks in 5
-    P 1 (map (supply 2 5) (6 ∷ 7 ∷ 8 ∷ 11 ∷ 12 ∷ 17 ∷ 18 ∷ [])) (0 ∷ 1 ∷ 2 ∷ 2 ∷ 3 ∷ 5 ∷ 6 ∷ [])
+    -- a supply of 2 ticks in 5, without delay
+    P 1 (map (delayedSupply 2 5 0) (6 ∷ 7 ∷ 8 ∷ 11 ∷ 12 ∷ 17 ∷ 18 ∷ [])) (0 ∷ 1 ∷ 2 ∷ 2 ∷ 3 ∷ 5 ∷ 6 ∷ [])
     -- a of arrivals whose jitter is longer than their period
     ∷ P 2 (map (arrivals 10 15 2) (0 ∷ 1 ∷ 2 ∷ 3 ∷ 5 ∷ 6 ∷ 12 ∷ [])) (0 ∷ 1 ∷ 1 ∷ 2 ∷ 2 ∷ 3 ∷ 3 ∷ [])
     -- E of a run longer than the entries

@@ -4,8 +4,8 @@ use super::tables::{any_shape, edition, table, Shape};
 use crate::random::Random;
 use crate::table::{encode, HEADER_BYTES, MOST_CALLBACKS, MOST_ENTRIES, RECORD_BYTES};
 
-/// The numbers with which a table's bytes can be refused.
-pub const NUMBERS: std::ops::RangeInclusive<u8> = 1..=16;
+/// The numbers with which a table's bytes can be refused; 22 came with U2 of document 02.
+pub const NUMBERS: [u8; 17] = [1, 2, 3, 4, 5, 6, 7, 8, 9, 10, 11, 12, 13, 14, 15, 16, 22];
 
 /// Bytes damaged somewhere; now and then the damage does no harm.
 pub fn damaged(random: &mut Random) -> Vec<u8> {
@@ -73,11 +73,11 @@ pub fn random_bytes(random: &mut Random) -> Vec<u8> {
 }
 
 fn refused(random: &mut Random) -> Vec<u8> {
-    let number = random.range(u64::from(*NUMBERS.start()), u64::from(*NUMBERS.end())) as u8;
+    let number = *random.pick(&NUMBERS);
     refused_with(random, number)
 }
 
-/// Bytes that are refused with this number, of 1 to 16.
+/// Bytes that are refused with this number, one of `NUMBERS`.
 pub fn refused_with(random: &mut Random, number: u8) -> Vec<u8> {
     let mut base = table(random, Shape::Small);
     while base.count() < 2 {
@@ -98,6 +98,7 @@ pub fn refused_with(random: &mut Random, number: u8) -> Vec<u8> {
         13 => looped(random, &mut bytes),
         14 => arrivals(random, &mut bytes),
         15 => no_window(random, &mut bytes),
+        22 => put(&mut bytes, 8, above(random)),
         _ => crowded(random, &mut bytes),
     }
     bytes
@@ -144,7 +145,7 @@ fn spare(random: &mut Random, bytes: &mut [u8]) {
     let record = place(any_callback(random, bytes));
     let used = usize::from(bytes[record + 2]);
     match random.range(0, 2) {
-        0 => bytes[random.range(8, 15) as usize] = value,
+        0 => bytes[random.range(10, 15) as usize] = value,
         1 if used < MOST_ENTRIES => {
             let entry = random.range(used as u64, MOST_ENTRIES as u64 - 1) as usize;
             bytes[record + 12 + 2 * entry + random.range(0, 1) as usize] = value;

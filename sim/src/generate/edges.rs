@@ -25,6 +25,7 @@ fn full(callbacks: Vec<Callback>) -> Table {
         budget: 1,
         period: 1,
         horizon: 0,
+        delay: 0,
         callbacks,
     }
 }
@@ -43,6 +44,16 @@ pub fn base(edition: u8) -> Table {
     Table {
         edition,
         ..full(callbacks)
+    }
+}
+
+/// The same four in edition 2, with 3 of 5 ticks after a delay of 7.
+pub fn late() -> Table {
+    Table {
+        budget: 3,
+        period: 5,
+        delay: 7,
+        ..base(2)
     }
 }
 
@@ -93,7 +104,24 @@ fn header(bytes: &[u8], tables: &mut Vec<Vec<u8>>) {
         tables.push(with_word(&with_word(bytes, 4, 59_999), 2, value));
         tables.push(with_word(bytes, 6, value));
     }
-    tables.extend((8..HEADER_BYTES).map(|spare| with_byte(bytes, spare, 1)));
+    delays(bytes, tables);
+    tables.extend((10..HEADER_BYTES).map(|spare| with_byte(bytes, spare, 1)));
+}
+
+/// U2: Z at its ends, with one byte of it alone, and 60,000 and 60,001 with their bytes exchanged;
+/// then the largest Z and a step beyond with each choice among faults of 5, 6, 7 and 8.
+fn delays(bytes: &[u8], tables: &mut Vec<Vec<u8>>) {
+    let exchanged = [60_000, 60_001].map(u16::swap_bytes);
+    let single = [0x00FF, 0xEA00, 0xEB00, 0xFF00];
+    for value in ENDS.into_iter().chain(single).chain(exchanged) {
+        tables.push(with_word(bytes, 8, value));
+    }
+    let mut faulty = [60_000, 60_001].map(|z| with_word(bytes, 8, z)).to_vec();
+    for (at, value) in [(10, 1), (2, 0), (6, 60_001), (HEADER_BYTES, 0)] {
+        let with_it: Vec<Vec<u8>> = faulty.iter().map(|b| with_word(b, at, value)).collect();
+        faulty.extend(with_it);
+    }
+    tables.extend(faulty);
 }
 
 /// Kind, next, spare bytes, T, J and d of one record.

@@ -4,7 +4,7 @@ use crate::history::History;
 use crate::machine::{bit, start, Answer, State, Tick};
 use crate::random::Random;
 use crate::table::{encode, Table, LARGEST, MOST_CALLBACKS};
-use crate::trackers::{ArrivalTracker, CostTracker, SupplyTracker};
+use crate::trackers::{longest_starvation, ArrivalTracker, CostTracker, SupplyTracker};
 
 /// How hard a history presses. With everything at a hundred percent each
 /// arrival, unsupplied tick and unit of cost is taken as soon as the curves
@@ -15,6 +15,8 @@ pub struct Style {
     pub phases: Vec<u64>,
     /// Percent of the permitted arrivals that are taken.
     pub arrive: u64,
+    /// The tick before which nothing arrives, and with which the first busy span begins.
+    pub lead: u64,
     /// The tick before which every tick is supplied.
     pub starve_from: u64,
     /// Percent of the permitted unsupplied ticks that are taken.
@@ -24,6 +26,8 @@ pub struct Style {
     /// Spans of ticks with and without arrivals, in turn.
     pub busy: u64,
     pub quiet: u64,
+    /// Whether unsupplied ticks keep to such spans too, the first of them from `starve_from` on.
+    pub fed: bool,
 }
 
 impl Style {
@@ -32,11 +36,13 @@ impl Style {
         Style {
             phases: vec![0; table.count()],
             arrive: 100,
+            lead: 0,
             starve_from: 0,
             starve: 100,
             costly: 100,
             busy: 1,
             quiet: 0,
+            fed: false,
         }
     }
 
@@ -66,29 +72,83 @@ impl Style {
         style
     }
 
-    /// One of the four, with phases and rests of about `span`.
+    /// The longest starvation at the worst moment. First full supply without arrivals, so that
+    /// nothing of the delay and of the bursts is spent; then all at once: the heads in one tick or
+    /// in two, and the unsupplied ticks from the tick before them, from their tick or from the one
+    /// behind. The same again after each rest, which often is so long that all is whole again.
+    pub fn starving(random: &mut Random, table: &Table, span: u64) -> Style {
+        let mut style = Style::greedy(table);
+        style.lead = random.range(1, span);
+        style.starve_from = style.lead + random.range(0, 2) - 1;
+        let apart = random.range(0, 1);
+        for phase in &mut style.phases {
+            *phase = style.lead + random.range(0, apart);
+        }
+        style.busy = longest_starvation(table) + random.range(span, 2 * span);
+        let some = random.range(1, 3 * span);
+        style.quiet = *random.pick(&[some, recovery(table)]);
+        style.fed = true;
+        style
+    }
+
+    /// One of the five, with phases and rests of about `span`. A table without a delay has one of
+    /// the four that there were before delays, so that seeds give what they gave.
     pub fn any(random: &mut Random, table: &Table, span: u64) -> Style {
-        match random.range(0, 3) {
+        let last = if table.delay == 0 { 3 } else { 4 };
+        match random.range(0, last) {
             0 => Style::greedy(table),
             1 => Style::phased(random, table, span),
             2 => Style::resting(random, table, span),
-            _ => Style::loose(random, table, span),
+            3 => Style::loose(random, table, span),
+            _ => Style::starving(random, table, span),
         }
     }
 
-    /// Greedy at turn 0; then in turn phased within two ticks, phased within `span`, resting and
-    /// loose.
+    /// Greedy at turn 0; then in turn phased within two ticks, phased within `span`, resting, for a
+    /// table with a delay starving, and loose.
     pub fn of_turn(random: &mut Random, table: &Table, span: u64, turn: u64) -> Style {
         if turn == 0 {
             return Style::greedy(table);
         }
-        match turn % 4 {
+        let styles = if table.delay == 0 { 4 } else { 5 };
+        match turn % styles {
             1 => Style::phased(random, table, 2),
             2 => Style::phased(random, table, span),
             3 => Style::resting(random, table, span),
+            4 => Style::starving(random, table, span),
             _ => Style::loose(random, table, span),
         }
     }
+
+    /// Whether a tick that is so many behind the beginning of the first span is in a busy one.
+    fn in_busy_span(&self, since: u64) -> bool {
+        since % (self.busy + self.quiet) < self.busy
+    }
+
+    /// Whether heads may arrive at this time.
+    fn arrives(&self, time: u64) -> bool {
+        let since = time.checked_sub(self.lead);
+        since.is_some_and(|since| self.in_busy_span(since))
+    }
+
+    /// Whether a tick may be without supply at this time.
+    fn starves(&self, time: u64) -> bool {
+        let since = time.checked_sub(self.starve_from);
+        since.is_some_and(|since| !self.fed || self.in_busy_span(since))
+    }
+}
+
+/// A rest, without arrivals and in full supply, after which every burst is whole again, and with
+/// g = P - Q above 0 the longest starvation too. A burst takes J + T ticks. A window of c supplied
+/// ticks has at most Z + (2 + ⌊c / Q⌋) × g unsupplied ones; for Z + 2 × g more of them it needs as
+/// many budgets as have gaps of that length together. (with g = 0 a spent delay never comes back)
+pub fn recovery(table: &Table) -> u64 {
+    let budgets = match table.period - table.budget {
+        0 => 0,
+        gap => table.delay.div_ceil(gap) + 2,
+    };
+    let bursts = table.callbacks.iter().map(|c| c.jitter + c.period);
+    bursts.fold(table.budget * budgets, u64::max)
 }
 
 /// The span for phases and rests in a history of `length` ticks: a window, or less where the
@@ -121,7 +181,7 @@ pub fn within(random: &mut Random, table: &Table, style: &Style, length: u64) ->
     for time in 0..length {
         let mask = driver.mask(random, style, time);
         let starved =
-            time >= style.starve_from && driver.supply.may_starve() && random.chance(style.starve);
+            style.starves(time) && driver.supply.may_starve() && random.chance(style.starve);
         driver.take(random, style, mask, !starved);
     }
     driver.history
@@ -131,7 +191,7 @@ impl Driver<'_> {
     /// The arrivals of this tick.
     fn mask(&mut self, random: &mut Random, style: &Style, time: u64) -> u16 {
         let mut mask = 0;
-        if time % (style.busy + style.quiet) >= style.busy {
+        if !style.arrives(time) {
             return mask;
         }
         for &head in &self.heads {
@@ -244,6 +304,23 @@ pub fn covering(edition: u8) -> Vec<(Tick, u8)> {
     match edition {
         1 => timers_first(&mut offers),
         _ => timers_polled(&mut offers),
+    }
+    offers
+}
+
+/// A history of the late table in `edges`, within its curves. In it the executor gets nothing for
+/// Z + 2 × (P - Q) ticks, and the follower completes just at its bound.
+pub fn starved() -> Vec<(Tick, u8)> {
+    // Nothing to do in full supply.
+    let mut offers = vec![offer(0, 1, 1); 4];
+    // All heads arrive with the first of 7 + 2 × 2 unsupplied ticks.
+    offers.push(offer(13, 0, 60_000));
+    offers.extend([offer(0, 0, 60_000); 10]);
+    // Then the budgets of 3, each as late as can be. The poll takes timer 1, client 3 and service 4;
+    // the client starts with the second budget, and follower 2 behind it in the third.
+    for costs in [[2, 60_000, 1], [4, 1, 1], [1, 3, 60_000], [1, 1, 1]] {
+        offers.extend(costs.map(|cost| offer(0, 1, cost)));
+        offers.extend([offer(0, 0, 1); 2]);
     }
     offers
 }

@@ -44,9 +44,10 @@ pub fn spoil(random: &mut Random, table: &Table, state: &mut State) {
     let place = random.range(0, table.count() as u64 - 1) as usize;
     let beyond = random.range(table.count() as u64, MOST_CALLBACKS as u64) as usize;
     let last = beyond.min(MOST_CALLBACKS - 1);
-    // For edition 1 every draw stays what it was before there was another.
+    // For edition 1 without a delay every draw stays what it was before there was another.
     let second = table.edition == 2;
     match random.range(0, 11) {
+        0 if table.delay > 0 && random.chance(40) => set_delay(random, state),
         0 if second && random.chance(50) => state.table[0] = 1,
         9 if second && random.chance(50) => run_uncached(random, table, state),
         0 => state.table = damaged(random),
@@ -62,6 +63,12 @@ pub fn spoil(random: &mut Random, table: &Table, state: &mut State) {
         10 => state.running = 0,
         _ => state.units = *random.pick(&[0, 1, LARGEST + 1]),
     }
+}
+
+/// Writes another delay into the state's table: a fault above 60,000 alone.
+fn set_delay(random: &mut Random, state: &mut State) {
+    let delay: u16 = *random.pick(&[60_001, 60_001, 65_535, 60_000]);
+    state.table[8..10].copy_from_slice(&delay.to_le_bytes());
 }
 
 /// Lets a timer, if there is one, run outside the cache: wrong in edition 2 alone, and else in order.

@@ -1,6 +1,7 @@
 //! Random tables that the reader takes.
 
 use crate::random::Random;
+use crate::sheet::window;
 use crate::table::{Callback, Kind, Table, LARGEST, MOST_CALLBACKS, MOST_ENTRIES};
 
 /// What sort of table to draw.
@@ -14,12 +15,22 @@ pub enum Shape {
     Extreme,
 }
 
+/// A table of this sort. Edition and delay take no number from the generator, so that beside them a
+/// seed draws what it drew when there was neither.
 pub fn table(random: &mut Random, shape: Shape) -> Table {
-    match shape {
+    let mut table = match shape {
         Shape::Small => loaded(random, 6, 12),
         Shape::Long => loaded(random, 400, 2_000),
         Shape::Extreme => extreme(random),
-    }
+    };
+    let mut aside = random.aside();
+    table.delay = match shape {
+        // Windows stay short: at the brink only where the horizon is short too.
+        Shape::Small => delay(&mut aside, &table, 36, 100),
+        Shape::Long => delay(&mut aside, &table, 6_000, LARGEST),
+        Shape::Extreme => extreme_delay(&mut aside, &table),
+    };
+    table
 }
 
 /// Three small tables to one long and one extreme.
@@ -58,13 +69,65 @@ fn loaded(random: &mut Random, largest_cost: u64, largest_period: u64) -> Table 
         budget,
         period,
         horizon: horizon(random),
+        delay: 0,
         callbacks,
     };
     load(random, &mut table);
     table
 }
 
-/// One of the two editions. Beside it a seed draws what it drew when there was only one.
+/// No delay in half of the draws, otherwise one of some ticks, up to a period or up to `most`. With
+/// a horizon of at most `horizon` it is now and then at the brink.
+fn delay(random: &mut Random, table: &Table, most: u64, horizon: u64) -> u64 {
+    if random.chance(50) {
+        return 0;
+    }
+    match random.range(0, 6) {
+        0 | 1 if table.longest_window() <= horizon => brink(random, table),
+        0 | 2 => random.range(1, 3),
+        1 | 3 => random.range(1, table.period),
+        _ => random.range(1, most),
+    }
+}
+
+/// The largest delay with which the table has a window, or one near to it.
+fn brink(random: &mut Random, table: &Table) -> u64 {
+    let largest = largest_delay(table);
+    let near = random.range(largest.saturating_sub(20), largest);
+    *random.pick(&[near, largest.max(1) - 1, largest, largest + 1])
+}
+
+/// The largest delay with which the table has a window; 0 where it has none without. A delay only
+/// takes from the supply, so that with each smaller one there is a window too.
+pub fn largest_delay(table: &Table) -> u64 {
+    let (mut served, mut unserved) = (0, LARGEST);
+    while unserved - served > 1 {
+        let delay = (served + unserved) / 2;
+        let late = Table {
+            delay,
+            ..table.clone()
+        };
+        match window(&late) {
+            Some(_) => served = delay,
+            None => unserved = delay,
+        }
+    }
+    served
+}
+
+/// A delay at one of the ends, between them, at the brink, or none.
+fn extreme_delay(random: &mut Random, table: &Table) -> u64 {
+    match random.range(0, 8) {
+        0..=2 => 0,
+        3 => 1,
+        4 => random.range(1, LARGEST),
+        5 => LARGEST - 1,
+        6 => LARGEST,
+        _ => brink(random, table),
+    }
+}
+
+/// One of the two editions.
 pub fn edition(random: &Random) -> u8 {
     if random.coin() {
         2
@@ -184,6 +247,7 @@ fn extreme(random: &mut Random) -> Table {
         budget,
         period,
         horizon: 0,
+        delay: 0,
         callbacks,
     };
     table.horizon = *random.pick(&[0, 1, LARGEST - 1, LARGEST]);

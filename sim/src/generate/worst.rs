@@ -9,7 +9,7 @@ use crate::sheet::Sheet;
 /// least once.
 const MOST_TRIES: u64 = 200;
 const TICKS_TOGETHER: u64 = 500_000;
-const FEWEST_TRIES: u64 = 5;
+const FEWEST_TRIES: u64 = 6;
 
 /// How many histories of `length` ticks are tried.
 pub fn tries(length: u64) -> u64 {

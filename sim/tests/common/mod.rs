@@ -1,7 +1,9 @@
 //! Small tables for the tests, and the program.
 #![allow(dead_code)]
 
+use sim::generate::tables::{table, Shape};
 use sim::machine::Tick;
+use sim::random::Random;
 use sim::sheet::analyse;
 use sim::table::{encode, Callback, Kind, Refusal, Table};
 use std::io::Write;
@@ -38,6 +40,7 @@ pub fn supplied(budget: u64, period: u64, callbacks: Vec<Callback>) -> Table {
         budget,
         period,
         horizon: 0,
+        delay: 0,
         callbacks,
     }
 }
@@ -51,6 +54,14 @@ pub fn full(callbacks: Vec<Callback>) -> Table {
 pub fn in_edition(edition: u8, table: &Table) -> Table {
     Table {
         edition,
+        ..table.clone()
+    }
+}
+
+/// The same table with this start delay.
+pub fn delayed(delay: u64, table: &Table) -> Table {
+    Table {
+        delay,
         ..table.clone()
     }
 }
@@ -135,6 +146,18 @@ pub fn run(words: &[&str], input: &[u8]) -> Ended {
 /// What the program prints on these words and input.
 pub fn program(words: &[&str], input: &[u8]) -> String {
     run(words, input).output
+}
+
+/// Whether no table has a delay that this seed draws for a history, up to the first that the analyser
+/// takes. Such a seed gives what it gave before there were delays.
+pub fn without_delays(seed: u64) -> bool {
+    let mut random = Random::new(seed);
+    loop {
+        let drawn = table(&mut random, Shape::Small);
+        if drawn.delay > 0 || sheet(&drawn).is_ok() {
+            return drawn.delay == 0;
+        }
+    }
 }
 
 /// A number that stands for a text (FNV-1a), to compare it with one of before.

@@ -12,6 +12,7 @@ use sim::machine::{bit, Tick};
 use sim::random::Random;
 use sim::table::{encode, Callback, Kind, Table, LARGEST, MOST_CALLBACKS};
 use sim::text::hex;
+use sim::trackers::longest_starvation;
 use std::sync::atomic::Ordering;
 
 const TABLES: u64 = 100;
@@ -92,6 +93,7 @@ fn one_table(
         comparison.start(bytes, &noise(random, LENGTH))?;
         comparison.totals.tables += 1;
         comparison.totals.accepted += u64::from(sheet.0 != 0);
+        comparison.totals.delayed += u64::from(sheet.0 != 0 && bytes[8..10] != [0, 0]);
         Ok((sheet.0 != 0).then_some(sheet))
     };
     all().map_err(|what: String| format!("{what}\ntable {}", hex(bytes)))
@@ -102,7 +104,7 @@ fn tables(comparison: &mut Comparison, random: &mut Random) -> Outcome {
         let bytes = refused_with(random, number);
         one_table(comparison, random, &bytes)?;
     }
-    for _ in NUMBERS.count() as u64..TABLES {
+    for _ in NUMBERS.len() as u64..TABLES {
         let bytes = match random.range(0, 19) {
             0..=9 => encode(&table(random, Shape::Small)),
             10..=11 => encode(&table(random, Shape::Long)),
@@ -114,13 +116,14 @@ fn tables(comparison: &mut Comparison, random: &mut Random) -> Outcome {
     Ok(())
 }
 
-/// Lone callbacks whose costs add up to nearly the largest window.
+/// Lone callbacks whose costs, behind a delay, add up to nearly the largest window.
 fn longest_window(comparison: &mut Comparison, random: &mut Random) -> Outcome {
     let count = *random.pick(&[1, 2, 16]);
+    let delay = *random.pick(&[0, 1, LARGEST / 2, LARGEST - 2 - count]);
     let lone = Callback {
         kind: Kind::Subscription,
         next: 0,
-        entries: vec![(LARGEST - random.range(0, 2)) / count],
+        entries: vec![(LARGEST - delay - random.range(0, 2)) / count],
         period: LARGEST,
         jitter: 0,
         distance: random.range(1, LARGEST),
@@ -130,6 +133,7 @@ fn longest_window(comparison: &mut Comparison, random: &mut Random) -> Outcome {
         budget: 1,
         period: 1,
         horizon: 0,
+        delay,
         callbacks: vec![lone; count as usize],
     });
     // The analyser's work grows with the square of the count.
@@ -177,19 +181,22 @@ fn offered(tick: &Tick) -> Offer {
     }
 }
 
+/// The most ticks in a row without supply.
+fn longest_pause(ticks: &[Tick]) -> u64 {
+    let pauses = ticks.split(|tick| tick.supplied);
+    pauses.map(|pause| pause.len() as u64).max().unwrap_or(0)
+}
+
 /// Histories within the curves; their replies, and the library's row, are
 /// held to the conclusions of demand 3 too.
 fn history_within(comparison: &mut Comparison, random: &mut Random) -> Outcome {
     for (shape, length) in [(Shape::Small, 600), (Shape::Small, 600), (Shape::Long, 800)] {
         let (table, window, row) = accepted(comparison, random, shape)?;
-        let window = u64::from(window);
-        let style = match random.range(0, 3) {
-            0 => Style::greedy(&table),
-            1 => Style::phased(random, &table, window),
-            2 => Style::resting(random, &table, window),
-            _ => Style::loose(random, &table, window),
-        };
+        let style = Style::any(random, &table, u64::from(window));
         let history = within(random, &table, &style, length);
+        let worst = longest_starvation(&table);
+        let starved = table.delay > 0 && longest_pause(&history.ticks) == worst;
+        comparison.totals.starved += u64::from(starved);
         play(
             comparison,
             random,

@@ -27,7 +27,11 @@ pub enum Function {
 pub struct Totals {
     pub tables: u64,
     pub accepted: u64,
+    /// Tables with a sheet and a delay.
+    pub delayed: u64,
     pub histories: u64,
+    /// Histories with as many ticks without supply in a row as a delay permits.
+    pub starved: u64,
     pub ticks: u64,
     /// Ticks, of all that were taken, on a state of edition 2 with something cached.
     pub second: u64,

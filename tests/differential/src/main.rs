@@ -21,6 +21,8 @@ const GATE: std::ops::Range<u64> = 1..211;
 const LEAST_TABLES: u64 = 20_000;
 const LEAST_TICKS: u64 = 1_000_000;
 const LEAST_SECOND: u64 = 200_000;
+const LEAST_DELAYED: u64 = 3_000;
+const LEAST_STARVED: u64 = 100;
 
 fn main() {
     let words: Vec<String> = std::env::args().skip(1).collect();
@@ -74,10 +76,11 @@ fn gate() -> Outcome {
 /// Whether a gate run was large enough and met every refusal.
 fn complete(totals: &Totals) -> Outcome {
     let many = totals.tables >= LEAST_TABLES && totals.ticks >= LEAST_TICKS;
-    if !many || totals.second < LEAST_SECOND {
+    let late = totals.delayed >= LEAST_DELAYED && totals.starved >= LEAST_STARVED;
+    if !many || !late || totals.second < LEAST_SECOND {
         return Err(format!("too few compared: {}", summary(totals)));
     }
-    let read: Vec<usize> = (0..=14).collect();
+    let read: Vec<usize> = (0..=14).chain([22]).collect();
     let numbers = [
         (Function::Analyse, [&read[..], &[15, 16, 17]].concat()),
         (Function::Start, [&read[..], &[29]].concat()),
@@ -98,12 +101,14 @@ fn complete(totals: &Totals) -> Outcome {
 
 fn summary(totals: &Totals) -> String {
     format!(
-        "{} tables ({} with a sheet), {} ticks ({} on a cache of edition 2), {} histories, {} damaged states, {} wrong lengths",
+        "{} tables ({} with a sheet, {} of these with a delay), {} ticks ({} on a cache of edition 2), {} histories ({} starved as long as a delay permits), {} damaged states, {} wrong lengths",
         totals.tables,
         totals.accepted,
+        totals.delayed,
         totals.ticks,
         totals.second,
         totals.histories,
+        totals.starved,
         totals.damaged,
         totals.lengths
     )

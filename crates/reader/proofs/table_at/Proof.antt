@@ -29,8 +29,8 @@ loop-again c =
 
 returns : tie.Need-returns Inv-loop μ-loop
 returns c =
-    let l = c .before .before .before .before .before .loop in
-    table-whole (now (c .before .before .before .before .before .before .before .before .before .args .b)) (l .i) (l .t) (l .inv .1) _ _ _ (le-antisymm (l .inv .0) (c .before .before .before .before .loop-test .left)) (c .before .before .get-u16 .ensures) (c .before .get-u162 .ensures) (c .get-u163 .ensures)
+    let l = c .before .before .before .before .before .before .loop in
+    table-whole (now (c .before .before .before .before .before .before .before .before .before .before .args .b)) (l .i) (l .t) (l .inv .1) _ _ _ _ (le-antisymm (l .inv .0) (c .before .before .before .before .before .loop-test .left)) (c .before .before .before .get-u16 .ensures) (c .before .before .get-u162 .ensures) (c .before .get-u163 .ensures) (c .get-u164 .ensures)
 
 pub table-at-spec : {M : Type 1} → statement M
 table-at-spec =
@@ -52,6 +52,7 @@ table-at-spec =
     (λ c. search needs)
     loop-again
     (λ c. search needs)
+    (λ c κs. search needs)
     (λ c κs. search needs)
     (λ c κs. search needs)
     (λ c κs. search needs)

@@ -25,28 +25,34 @@ returns-3 c =
     simp (c .before .before .before .before .before .if1 .left, sym (c .before .before .before .before .supply-fault .ensures) ∙ c .before .before .before .if2 .left, lt-ltb _ _ (c .before .if3 .taken))
     (c .refused3 .ensures)
 
+returns-4 : tie.Need-returns-4
+unfolding bodyFault
+returns-4 c =
+    simp (c .before .before .before .before .before .before .before .if1 .left, sym (c .before .before .before .before .before .before .supply-fault .ensures) ∙ c .before .before .before .before .before .if2 .left, le-ltb _ _ (c .before .before .before .if3 .left), lt-ltb _ _ (c .before .if4 .taken))
+    (c .refused4 .ensures)
+
 -- what is left behind the header's tests
 rest : (c : tie.After-records-fault)
-    → let a = c .before .before .before .before .before .before .args in
+    → let a = c .before .before .before .before .before .before .before .before .args in
     bodyFault (a .spare) (a .spares) (a .t) ≡ orElse (recordsFrom (a .spares) (a .t) (a .t .count) 0) (linksFault (a .t))
 unfolding bodyFault
 rest c =
-    simp (c .before .before .before .before .before .if1 .left, sym (c .before .before .before .before .supply-fault .ensures) ∙ c .before .before .before .if2 .left, le-ltb _ _ (c .before .if3 .left))
+    simp (c .before .before .before .before .before .before .before .if1 .left, sym (c .before .before .before .before .before .before .supply-fault .ensures) ∙ c .before .before .before .before .before .if2 .left, le-ltb _ _ (c .before .before .before .if3 .left), le-ltb _ _ (c .before .if4 .left))
 
 number-is : (c : tie.After-records-fault)
-    → let a = c .before .before .before .before .before .before .args in c .records-fault .result .number ≡ (recordsFrom (a .spares) (a .t) (a .t .count) 0) .number
+    → let a = c .before .before .before .before .before .before .before .before .args in c .records-fault .result .number ≡ (recordsFrom (a .spares) (a .t) (a .t .count) 0) .number
 number-is c = ap (λ (r : Refusal). r .number) (c .records-fault .ensures)
 
-returns-4 : tie.Need-returns-4
-returns-4 c = c .before .before .records-fault .ensures ∙ sym (rest (c .before .before) ∙ first-refused _ _ (λ e. c .if4 .taken (number-is (c .before .before) ∙ e)))
+returns-5 : tie.Need-returns-5
+returns-5 c = c .before .before .records-fault .ensures ∙ sym (rest (c .before .before) ∙ first-refused _ _ (λ e. c .if5 .taken (number-is (c .before .before) ∙ e)))
 
 links-fault-requires : tie.Need-links-fault-requires
 links-fault-requires c κs =
-    let s = c .before .before .before .before .before .before .before .before in
-    (s .pre, records-known (s .args .spares) (s .args .t) (sym (number-is (c .before .before)) ∙ c .if4 .left))
+    let s = c .before .before .before .before .before .before .before .before .before .before in
+    (s .pre, records-known (s .args .spares) (s .args .t) (sym (number-is (c .before .before)) ∙ c .if5 .left))
 
-returns-5 : tie.Need-returns-5
-returns-5 c = c .links-fault .ensures ∙ sym (rest (c .before .before .before) ∙ first-passed _ _ (sym (number-is (c .before .before .before)) ∙ c .before .if4 .left))
+returns-6 : tie.Need-returns-6
+returns-6 c = c .links-fault .ensures ∙ sym (rest (c .before .before .before) ∙ first-passed _ _ (sym (number-is (c .before .before .before)) ∙ c .before .if5 .left))
 
 pub body-fault-spec : {M : Type 1} → statement M
 body-fault-spec =
@@ -61,5 +67,7 @@ body-fault-spec =
     returns-3
     (λ c κs. search needs)
     returns-4
+    (λ c κs. search needs)
+    returns-5
     links-fault-requires
-    returns-5)
+    returns-6)

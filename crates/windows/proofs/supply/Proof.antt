@@ -9,4 +9,4 @@ unfolding supplyOf
 returns c = c .supply .ensures .0
 
 pub supply-spec : {M : Type 1} → statement M
-supply-spec = tie.close (tie.spec (λ c. search needs) (λ c. search needs) (λ c κs. search needs) returns)
+supply-spec = tie.close (tie.spec (λ c. search needs) (λ c. search needs) (λ c. search needs) (λ c κs. search needs) returns)
