@@ -1,8 +1,9 @@
 -- Laws of the supply s(D): its whole periods lie within D (periods); it is 0 before the first gap has passed (supply-early), and then what suppliedPast says (supply-past).
--- Behind a delay it is 0 before the delay has passed (delayed-early), and then s of what is left (delayed-past).
+-- Behind a delay it is 0 before the delay has passed (delayed-early), and then s of what is left (delayed-past); without one it is s (delayed-none).
 use mathlib.Core.Path.{_≡_}
 use Prim.Native.Nat.{ℕ, _*_, _-_, _/_, _≤_, _<_}
-use native.Mathlib.Nat.{div-mul-le-self, mul-le-mul-left}
+use native.Mathlib.Nat.{div-mul-le-self, mul-le-mul-left, sub-zero}
+use native.Mathlib.Omega.{arith}
 use borrow.Author.Tests.{lt-ltb, le-ltb}
 use Rattle.curves.specs.Supply.{supply, suppliedPast, delayedSupply}
 
@@ -27,3 +28,7 @@ delayed-early budget period delay n h = rw (lt-ltb n delay h, delayedSupply)
 pub delayed-past : (budget period delay n : ℕ) → delay ≤ n → delayedSupply budget period delay n ≡ supply budget period (n - delay)
 unfolding delayedSupply
 delayed-past budget period delay n h = rw (le-ltb n delay h, delayedSupply)
+
+-- so a table with zeros in bytes 8 and 9 has the supply that it had before there was a delay
+pub delayed-none : (budget period n : ℕ) → delayedSupply budget period 0 n ≡ supply budget period n
+delayed-none budget period n = simp sub-zero at (delayed-past budget period 0 n (omega arith))

@@ -15,7 +15,7 @@ pub record WithinCurves (tb : Table) (h : List Tick) (r : List Result) : Type 0 
   -- arrivals: a(D) bounds the activations of each head in every window of D ticks
   pub arrivals : (i t D : ℕ) → i < tb .count → T (isHead tb i) → t + D ≤ length h
       → over-window (λ u. given (activatedAt tb h r i u) 1) t D ≤ arrivalsOf tb i D
-  -- supply: every window of D ticks has s(D) supplied ones at least
+  -- supply: every window of D ticks has at least as many supplied ones as the table's supply at D says, which comes behind its delay (document 02, U2)
   pub supply : (t D : ℕ) → t + D ≤ length h → supplyOf tb D ≤ over-window (λ u. given ((tickAt h u) .supplied) 1) t D
   -- cost: E(n) bounds what n consecutive instances of a callback cost that start; here, those that start in a window of ticks
   pub costs : (i t D : ℕ) → i < tb .count → t + D ≤ length h
