@@ -15,6 +15,7 @@ use sim::machine::{bit, Tick};
 use sim::random::Random;
 use sim::sheet::{sheet as analysed, window, Sheet};
 use sim::table::{encode, read, Kind, Table};
+use sim::text::Line;
 use std::process::Command;
 
 /// Z + 2 × (P - Q): the longest time without supply.
@@ -272,7 +273,7 @@ fn all_heads(table: &Table) -> u16 {
 #[test]
 fn starvation_at_the_worst_moment() {
     let mut random = Random::new(57);
-    let (mut begun, mut again, mut together, mut rested) = ([0; 3], 0, 0, 0);
+    let (mut begun, mut again, mut rested, mut whole) = ([0; 3], 0, 0, 0);
     for _ in 0..300 {
         let sheet = late_sheet(&mut random, 200);
         let (table, run) = (&sheet.table, longest(&sheet.table));
@@ -285,8 +286,8 @@ fn starvation_at_the_worst_moment() {
         assert!(first >= 1 && [style.lead, style.lead + 1].contains(&first));
         assert_eq!(runs[0], (style.starve_from, run));
         begun[(style.starve_from + 1 - style.lead) as usize] += 1;
-        together += u64::from(history.ticks[first as usize].mask == all_heads(table));
         rested += u64::from(2 * style.lead > sheet.window);
+        whole += u64::from(style.quiet == recovery(table));
         if style.quiet >= recovery(table) && table.budget < table.period {
             assert!(runs.contains(&(style.starve_from + cycle, run)));
             let mask = history.ticks[(style.lead + cycle) as usize].mask;
@@ -296,9 +297,29 @@ fn starvation_at_the_worst_moment() {
     }
     assert!(begun.iter().all(|&count| count > 60), "{begun:?}");
     assert!(
-        again > 60 && together > 150 && rested > 100,
-        "{again} {together} {rested}"
+        again > 60 && rested > 100 && whole > 100,
+        "{again} {rested} {whole}"
     );
+}
+
+/// In half of the starving histories all heads arrive in one tick, in the others in two.
+#[test]
+fn heads_together_or_apart() {
+    let mut random = Random::new(61);
+    let (mut together, mut apart) = (0, 0);
+    for _ in 0..400 {
+        let sheet = late_sheet(&mut random, 200);
+        let heads = all_heads(&sheet.table);
+        if heads.count_ones() >= 3 {
+            let style = Style::starving(&mut random, &sheet.table, sheet.window);
+            let history = within(&mut random, &sheet.table, &style, style.lead + 2);
+            match history.ticks[first_arrival(&history) as usize].mask == heads {
+                true => together += 1,
+                false => apart += 1,
+            }
+        }
+    }
+    assert!(apart > 20 && together > apart, "{together} {apart}");
 }
 
 /// The rest that gives the longest starvation back is as long as it must be.
@@ -450,16 +471,58 @@ fn program_with_delays() {
     assert_eq!(program(&["within"], text(5).as_bytes()), "within\n1 8 8\n");
     let outside = "outside supply from 0 ticks 6\n1 8 9\n";
     assert_eq!(program(&["within"], text(6).as_bytes()), outside);
-    let checked = program(&["check", "1", "60", "300"], b"");
-    let line = checked
-        .lines()
-        .find(|line| line.starts_with("of these with a delay "));
-    let delayed = (1..=60).filter(|&seed: &u64| {
-        let totals = sim::check::check(seed, 1, 10);
-        assert!(totals.delayed <= totals.accepted);
-        totals.delayed == 1
-    });
-    let delayed = delayed.count();
-    assert_eq!(line, Some(&format!("of these with a delay {delayed}")[..]));
-    assert!(delayed > 12);
+}
+
+/// The sheet that `sim check` tries for this seed, if there is one.
+fn checked_sheet(seed: u64) -> Option<Sheet> {
+    let mut random = Random::new(seed);
+    let shape = if random.chance(95) {
+        Shape::Small
+    } else {
+        Shape::Long
+    };
+    analysed(&encode(&table(&mut random, shape))).ok()
+}
+
+/// `sim check` counts the accepted tables with a delay, and tries two histories more on each, which
+/// are longer by a rest.
+#[test]
+fn check_counts_delays() {
+    let sheets: Vec<Sheet> = (1..=60).filter_map(checked_sheet).collect();
+    let late = sheets.iter().filter(|sheet| sheet.table.delay > 0);
+    let (mut histories, mut ticks) = (0, 0);
+    for Sheet { table, window, .. } in &sheets {
+        let (tried, rest) = match table.delay {
+            0 => (9, 0),
+            _ => (11, recovery(table)),
+        };
+        histories += tried;
+        ticks += tried * (8 * window + 20 + rest).min(300);
+    }
+    let text = program(&["check", "1", "60", "300"], b"");
+    for line in [
+        format!("accepted {}", sheets.len()),
+        format!("of these with a delay {}", late.clone().count()),
+        format!("histories {histories}"),
+        format!("ticks {ticks}"),
+        "violations 0".to_string(),
+    ] {
+        assert!(text.lines().any(|said| said == line), "{line}\n{text}");
+    }
+    assert!(late.clone().count() > 12 && late.clone().any(|sheet| sheet.table.delay == 1));
+}
+
+/// Drawn tables with a delay have phases and rests that fit into short histories, so that most have
+/// arrivals.
+#[test]
+fn short_histories_with_delays() {
+    let (mut late, mut silent) = (0, 0);
+    for seed in (1..=120u64).filter(|&seed| !without_delays(seed)) {
+        let words = ["generate", "history", &seed.to_string(), "within", "24"];
+        let script = sim::text::script(&program(&words, b"")).unwrap();
+        let arrives = |line: &Line| matches!(line, Line::Tick(tick) if tick.mask != 0);
+        late += 1;
+        silent += u64::from(!script.lines.iter().any(arrives));
+    }
+    assert!(late > 30 && silent < 4, "{late} {silent}");
 }
