@@ -14,6 +14,6 @@ supply budget period n =
     let g : ℕ = period - budget in
     elim (ltb n g) [ true ↦ 0 | false ↦ suppliedPast budget period g n ]
 
--- the supply of a table, of Q, P and Z: s(D - Z), and 0 for D below Z
+-- the supply of a table, of Q, P and Z (document 02, U2): s(D - Z), and 0 for D below Z
 unfoldable pub delayedSupply : ℕ → ℕ → ℕ → ℕ → ℕ
 delayedSupply budget period delay n = elim (ltb n delay) [ true ↦ 0 | false ↦ supply budget period (n - delay) ]

@@ -36,7 +36,7 @@ recordAt b k = let vs : List (List ℕ) = fieldsAt recordFields b k 0 in callbac
 unfoldable pub spareAt : List ℕ → ℕ → Bool
 spareAt b k = not (zeros b (k + 3) 1 && (zeros b (k + 10) 2 && zeros b (k + 28) 4))
 
--- whether the header's spare bytes are zero
+-- whether the header's spare bytes, from byte 10 on (document 02, U2), are zero
 abbrev pub headerClear : List ℕ → Bool
 headerClear b = zeros b 10 6
 
@@ -57,12 +57,12 @@ tableAt b = let vs : List (List ℕ) = fieldsAt headerFields b 0 0 in tableOf (f
 unfoldable pub sparesAt : List ℕ → ℕ
 sparesAt b = gather (λ i. spareAt b (recordStart i)) (getD b 1 0)
 
--- 4, then 5 to 14
+-- 4, then 5 to 14 and 22
 unfoldable pub wholeFault : List ℕ → Refusal
 wholeFault b =
     cond (not (eqb (length b) (recordStart (getD b 1 0)))) (refuse wrongLength 0) (bodyFault (not (headerClear b)) (sparesAt b) (tableAt b))
 
--- the refusal of a table's bytes, 1 to 14 in their order
+-- the refusal of a table's bytes, 1 to 14 and 22 in their order
 unfoldable pub readFault : List ℕ → Refusal
 readFault b =
     elim (ltb (length b) headerLength) [

@@ -1,4 +1,4 @@
-// A table from its bytes, little-endian: refusals 1 to 14, or the table.
+// A table from its bytes, little-endian: refusals 1 to 14 and 22, or the table.
 
 use numbers::HEADER_LENGTH;
 use numbers::PLACES;

@@ -1,5 +1,5 @@
 -- The analyser's refusals in their order: what each test leads to.
--- Of a table: fault-none (15), fault-crowded (16), fault-passed. Of bytes and a row: row-first, reader-first (the order), short-row (17), misread (1 to 14), well-read (what the table gives).
+-- Of a table: fault-none (15), fault-crowded (16), fault-passed. Of bytes and a row: row-first, reader-first (the order), short-row (17), misread (the reader's), well-read (what the table gives).
 use mathlib.Core.Path.{_≡_, refl, sym, ap, _∙_}
 use mathlib.Core.Logic.{_≢_}
 use mathlib.Core.Bool.{Bool, true, false}
