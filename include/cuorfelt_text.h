@@ -42,7 +42,7 @@ static inline cuorfelt_words cuorfelt_text(unsigned number, unsigned index)
     case CUORFELT_WRONG_SUPPLY:
         return cuorfelt_words_of("Q is zero or above P, or P is above 60,000", "give Q and P in ticks; choose a longer tick");
     case CUORFELT_WRONG_DELAY:
-        return cuorfelt_words_of("Z is above 60,000", "give Z in ticks, 0 where the thread is never released late; choose a longer tick");
+        return cuorfelt_words_of("Z is above 60,000", "give Z in ticks, 0 where no tick comes after the end of its period; choose a longer tick");
     case CUORFELT_WRONG_HORIZON:
         return cuorfelt_words_of("H is above 60,000", "write 60,000 or less, or 0");
     case CUORFELT_WRONG_KIND:
