@@ -41,23 +41,21 @@ pub fn cost(entries: [u16; 8], used: u8, count: u32) -> u64
 }
 
 // The supplied ticks of any window of that many ticks, at least: s(length - delay), and 0 for a length below the delay.
-pub fn supply(budget: u32, period: u32, delay: u32, length: u32) -> u64
+pub fn supply(budget: u32, period: u32, delay: u32, length: u32) -> u32
     requires { ⌜ (0 < budget) × (budget ≤ period) × (period ≤ longest) × (length ≤ maxLength) ⌝ }
     ensures { λ r. ⌜ (r ≡ delayedSupply budget period delay length) × (r ≤ length) ⌝ }
 {
     if length < delay {
         return 0;
     }
-    let q = budget as u64;
-    let p = period as u64;
-    let d = (length - delay) as u64;
-    let gap = p - q;
+    let d = length - delay;
+    let gap = period - budget;
     if d < gap {
         return 0;
     }
-    let k = (d - gap) / p;
-    let whole = k * q;
-    let begun = 2 * gap + k * p;
+    let k = (d - gap) / period;
+    let whole = k * budget;
+    let begun = 2 * gap + k * period;
     if begun < d {
         return whole + (d - begun);
     }

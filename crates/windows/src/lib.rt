@@ -71,7 +71,7 @@ fn demand_but(t: Table, heads: [u8; 16], x: usize, length: u32) -> u64
 }
 
 // The supply of a table in a window of `length` ticks.
-fn supply(t: Table, length: u32) -> u64
+fn supply(t: Table, length: u32) -> u32
     requires { ⌜ Sound t × (length ≤ maxLength) ⌝ }
     ensures { λ r. ⌜ r ≡ supplyOf t length ⌝ }
 {
@@ -87,7 +87,7 @@ pub fn window(t: Table, heads: [u8; 16], horizon: u32) -> u32
     let mut length: u32 = 1;
     while length <= horizon {
         let demand = demand_but(t, heads, n, length);
-        if demand <= supply(t, length) {
+        if demand <= supply(t, length) as u64 {
             return length;
         }
         length += 1;
@@ -124,7 +124,7 @@ pub fn bound(t: Table, heads: [u8; 16], x: usize, window: u32) -> u32
     while offset < window {
         let own = work(c, g, offset + 1);
         let finish = loop {
-            if own + others <= supply(t, length) {
+            if own + others <= supply(t, length) as u64 {
                 break length;
             }
             length += 1;

@@ -45,7 +45,6 @@ supply-spec =
     (tie.spec
     returns
     (λ c. search needs)
-    (λ c. search needs)
     returns-2
     (λ c. search needs)
     mul-whole

@@ -186,6 +186,7 @@ bound-spec =
     loop2-holds
     add-if1
     supply-requires
+    (λ c. search needs)
     add-length
     demand-but-requires-2
     loop2-less

@@ -55,6 +55,7 @@ window-spec =
     loop-holds
     demand-but-requires
     supply-requires
+    (λ c. search needs)
     returns
     (λ c. search needs)
     (λ c. search needs)
