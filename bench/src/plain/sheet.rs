@@ -24,13 +24,13 @@ fn cost(callback: &Callback, count: u32) -> u64 {
     u64::from(whole) * last + u64::from(part)
 }
 
-fn supply(table: &Table, length: u32) -> u64 {
-    let (budget, period) = (u64::from(table.budget), u64::from(table.period));
-    let (gap, delay) = (period - budget, u64::from(table.delay));
-    if u64::from(length) < delay + gap {
+fn supply(table: &Table, length: u32) -> u32 {
+    let (budget, period) = (u32::from(table.budget), u32::from(table.period));
+    let (gap, delay) = (period - budget, u32::from(table.delay));
+    if length < delay + gap {
         return 0;
     }
-    let length = u64::from(length) - delay;
+    let length = length - delay;
     let whole = (length - gap) / period;
     whole * budget + length.saturating_sub(2 * gap + whole * period)
 }
@@ -66,7 +66,7 @@ fn window(table: &Table, heads: &[u8; PLACES]) -> Option<u32> {
     };
     let none = table.count;
     (1..=u32::from(horizon))
-        .find(|&length| demand_but(table, heads, none, length) <= supply(table, length))
+        .find(|&length| demand_but(table, heads, none, length) <= supply(table, length).into())
 }
 
 fn bound(table: &Table, heads: &[u8; PLACES], slot: usize, window: u32) -> u32 {
@@ -76,7 +76,7 @@ fn bound(table: &Table, heads: &[u8; PLACES], slot: usize, window: u32) -> u32 {
     let mut supplied = supply(table, length);
     for offset in 0..window {
         let own = work(table, heads, slot, offset + 1);
-        while supplied < own + others {
+        while u64::from(supplied) < own + others {
             length += 1;
             others = demand_but(table, heads, slot, length);
             supplied = supply(table, length);
