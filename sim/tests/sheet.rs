@@ -8,6 +8,7 @@ use sim::sheet::{
     analyse, arrivals, bound_literal, bounds, cost, delayed_supply, supply, window, window_literal,
 };
 use sim::table::{encode, Kind, Table};
+use std::iter::repeat;
 
 /// E(a(D)) of one callback.
 fn demand(table: &Table, index: usize, length: u64) -> u64 {
@@ -118,6 +119,46 @@ fn supply_is_late_by_the_delay() {
         [3, 4, 5, 6, 1_000].map(|length| at(4, 1, 1, length)),
         [0, 0, 1, 2, 996]
     );
+}
+
+/// The ticks of a worst window, without the formula: Z lost ones, the rest of a period that gave
+/// its Q ticks first, then periods that give theirs last. Counted, they are the delayed supply.
+fn worst_ticks(table: &Table) -> impl Iterator<Item = bool> {
+    let times = |supplied: bool, ticks: u64| repeat(supplied).take(ticks as usize);
+    let gap = times(false, table.period - table.budget);
+    let period = gap.clone().chain(times(true, table.budget));
+    times(false, table.delay).chain(gap).chain(period.cycle())
+}
+
+/// U3: results worked out in too few bits would differ. At Q = 1, P = 60,000 the formula has
+/// 2 × (P - Q) = 119,998, and 179,998 with k × P; at Q = P = 1 k, its products and the result
+/// reach D. A delay above D that lost its upper bits would let supply through.
+#[test]
+fn supply_at_the_largest_numbers() {
+    let pairs = [1, 2, 29_999, 30_000, 30_001, 59_999, 60_000].map(|budget| (budget, 60_000));
+    let others = [
+        (1, 1),
+        (1, 2),
+        (1, 59_999),
+        // 2 × (P - Q) just fits 16 bits, and just does not.
+        (1, 32_768),
+        (1, 32_769),
+        // P1's numbers.
+        (2, 5),
+    ];
+    let delays = [0, 1, 59_999, 60_000, 65_536, 119_999, 120_000, 120_001];
+    let beyond = [1 << 31, u32::MAX.into()];
+    for (budget, period) in pairs.into_iter().chain(others) {
+        for delay in delays.into_iter().chain(beyond) {
+            let table = delayed(delay, &supplied(budget, period, vec![]));
+            let mut counted = 0;
+            for (length, given) in (0..=120_010).zip(worst_ticks(&table)) {
+                let place = (budget, period, delay, length);
+                assert_eq!(delayed_supply(&table, length), counted, "{place:?}");
+                counted += u64::from(given);
+            }
+        }
+    }
 }
 
 /// The paper's cases with a delay, reckoned by hand.

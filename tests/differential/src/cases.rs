@@ -10,6 +10,7 @@ use sim::generate::tables::{any_shape, edition, table, Shape};
 use sim::history::conclusions;
 use sim::machine::{bit, Tick};
 use sim::random::Random;
+use sim::sheet::delayed_supply;
 use sim::table::{encode, Callback, Kind, Table, LARGEST, MOST_CALLBACKS};
 use sim::text::hex;
 use sim::trackers::longest_starvation;
@@ -60,10 +61,12 @@ pub fn run(comparison: &mut Comparison, seed: u64) -> Outcome {
     Ok(())
 }
 
-/// Tables with each field at the ends of its range and a step beyond.
+/// Tables with each field at the ends of its range and a step beyond, and
+/// tables that would have another sheet if fewer bits were kept.
 pub fn edges(comparison: &mut Comparison) -> Outcome {
     let mut random = Random::new(0);
-    for bytes in sim::generate::edges::edges() {
+    let tables = sim::generate::edges::edges().into_iter();
+    for bytes in tables.chain(widest_supplies()).chain([widest_demand()]) {
         one_table(comparison, &mut random, &bytes).map_err(|what| format!("edges: {what}"))?;
     }
     Ok(())
@@ -116,18 +119,65 @@ fn tables(comparison: &mut Comparison, random: &mut Random) -> Outcome {
     Ok(())
 }
 
+/// A subscription of one entry without followers, as often as `distance` lets it come.
+fn lone(cost: u64, period: u64, distance: u64) -> Callback {
+    Callback {
+        kind: Kind::Subscription,
+        next: 0,
+        entries: vec![cost],
+        period,
+        jitter: 0,
+        distance,
+    }
+}
+
+/// One callback that the supply of all ticks up to the largest horizon covers,
+/// or just does not: what the formula forms on the way there goes up to twice
+/// that horizon, and past sixteen bits at a gap of 32,768.
+fn widest_supplies() -> Vec<Vec<u8>> {
+    let gaps = [0, 1, 29_999, 30_000, 32_767, 32_768, LARGEST - 1];
+    let mut tables = Vec::new();
+    for (gap, delay) in gaps
+        .iter()
+        .flat_map(|&gap| [0, 1, 30_000].map(|delay| (gap, delay)))
+    {
+        let mut table = Table {
+            edition: 1,
+            budget: LARGEST - gap,
+            period: LARGEST,
+            horizon: 0,
+            delay,
+            callbacks: Vec::new(),
+        };
+        let covered = delayed_supply(&table, LARGEST);
+        for cost in covered.max(1)..=(covered + 1).min(LARGEST) {
+            table.callbacks = vec![lone(cost, LARGEST, LARGEST)];
+            tables.push(encode(&table));
+        }
+    }
+    tables
+}
+
+/// A demand of 131,072 more in each tick: 32 bits would find none of it at 32,768.
+fn widest_demand() -> Vec<u8> {
+    encode(&Table {
+        edition: 1,
+        budget: 1,
+        period: 1,
+        horizon: 0,
+        delay: 0,
+        callbacks: [LARGEST, LARGEST, 11_072]
+            .map(|cost| lone(cost, 1, 1))
+            .into(),
+    })
+}
+
 /// Lone callbacks whose costs, behind a delay, add up to nearly the largest window.
 fn longest_window(comparison: &mut Comparison, random: &mut Random) -> Outcome {
     let count = *random.pick(&[1, 2, 16]);
     let delay = *random.pick(&[0, 1, LARGEST / 2, LARGEST - 2 - count]);
-    let lone = Callback {
-        kind: Kind::Subscription,
-        next: 0,
-        entries: vec![(LARGEST - delay - random.range(0, 2)) / count],
-        period: LARGEST,
-        jitter: 0,
-        distance: random.range(1, LARGEST),
-    };
+    let cost = (LARGEST - delay - random.range(0, 2)) / count;
+    let lone = lone(cost, LARGEST, random.range(1, LARGEST));
     let bytes = encode(&Table {
         edition: edition(random),
         budget: 1,
