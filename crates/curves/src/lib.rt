@@ -41,6 +41,7 @@ pub fn cost(entries: [u16; 8], used: u8, count: u32) -> u64
 }
 
 // The supplied ticks of any window of that many ticks, at least: s(length - delay), and 0 for a length below the delay.
+// 32 bits hold all that is formed on the way: the largest, `begun`, exceeds what is left of the length by no more than one gap.
 pub fn supply(budget: u32, period: u32, delay: u32, length: u32) -> u32
     requires { ⌜ (0 < budget) × (budget ≤ period) × (period ≤ longest) × (length ≤ maxLength) ⌝ }
     ensures { λ r. ⌜ (r ≡ delayedSupply budget period delay length) × (r ≤ length) ⌝ }
