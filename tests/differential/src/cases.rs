@@ -62,7 +62,7 @@ pub fn run(comparison: &mut Comparison, seed: u64) -> Outcome {
 }
 
 /// Tables with each field at the ends of its range and a step beyond, and
-/// tables that would have another sheet if fewer bits were kept.
+/// tables whose supply or demand is at its widest.
 pub fn edges(comparison: &mut Comparison) -> Outcome {
     let mut random = Random::new(0);
     let tables = sim::generate::edges::edges().into_iter();
