@@ -1,5 +1,5 @@
 -- What the functions and laws of the curves ask. maxLength: the longest window. RisingEntries: of cost entries.
--- Rising: of the curves of several callbacks.
+-- Rising: of the curves of several callbacks. Turned: of a supply and the least lengths that reach it.
 use mathlib.Core.List.{List}
 use Prim.Native.Nat.{ℕ, suc, _*_, _≤_, _<_}
 use lib.ListN.{length}
@@ -18,3 +18,8 @@ RisingEntries es = (k : ℕ) → k < length es → entry es k < entry es (suc k)
 pub record Rising (n : ℕ) (a e : ℕ → ℕ → ℕ) : Type 0 where
   pub a-up : (i d : ℕ) → i < n → a i d ≤ a i (suc d)
   pub e-up : (i m : ℕ) → i < n → e i m < e i (suc m)
+
+-- what a search by jumps asks of a supply s and lengths r, of lengths up to `most`: x is supplied in a length just where it is r x at least
+pub record Turned (most : ℕ) (s r : ℕ → ℕ) : Type 0 where
+  pub enough : (x D : ℕ) → D ≤ most → r x ≤ D → x ≤ s D
+  pub short : (x D : ℕ) → D ≤ most → D < r x → s D < x

@@ -7,7 +7,7 @@ ghost use Rattle.numbers.specs.Numbers.{longest};
 ghost use Rattle.curves.specs.Parts.{maxLength};
 ghost use Rattle.curves.specs.Arrivals.{arrivals as arrivalsOf};
 ghost use Rattle.curves.specs.Cost.{cost as costOf};
-ghost use Rattle.curves.specs.Supply.{delayedSupply};
+ghost use Rattle.curves.specs.Supply.{delayedSupply, reach as reachOf, reachUpTo};
 
 // a(length): the activations of a head in any window of that many ticks, at most; 0 for no ticks, whatever the jitter.
 pub fn arrivals(period: u32, jitter: u32, distance: u32, length: u32) -> u32
@@ -61,4 +61,23 @@ pub fn supply(budget: u32, period: u32, delay: u32, length: u32) -> u32
         return whole + (d - begun);
     }
     whole
+}
+
+// The least length whose supply is at least `demand`; for a demand above `most` the length past `most`, since no length supplies more ticks than it has.
+// With that test first, 32 bits hold all that follows: at most 59,999 periods of 60,000 ticks, and beside them the delay, two gaps and a budget.
+pub fn reach(budget: u32, period: u32, delay: u32, most: u32, demand: u64) -> u32
+    requires { ⌜ (0 < budget) × (budget ≤ period) × (period ≤ longest) × (delay ≤ longest) × (most ≤ longest) ⌝ }
+    ensures { λ r. ⌜ r ≡ reachUpTo most (reachOf budget period delay) demand ⌝ }
+{
+    if demand > most as u64 {
+        return most + 1;
+    }
+    if demand == 0 {
+        return 0;
+    }
+    let x = demand as u32;
+    let gap = period - budget;
+    let k = (x - 1) / budget;
+    let rest = x - k * budget;
+    delay + k * period + 2 * gap + rest
 }

@@ -119,15 +119,15 @@ module _ (p : ℕ → Bool) (h : ℕ) where
   pub rest-miss : (d : ℕ) → d ≤ h → p d ≡ false → rest p h d ≡ rest p h (d + 1)
   rest-miss d l t = one-more d l ∙ ap (λ (b : Bool). elim b [ true ↦ d | false ↦ rest p h (d + 1) ]) t
 
-  -- a search may go on from d where nothing from 1 on passes before d
-  pub rest-skip : (d : ℕ) → 1 ≤ d → ((x : ℕ) → 1 ≤ x → x < d → p x ≡ false) → rest p h d ≡ least p h 1
-  rest-skip zero l f = absurd (omega arith)
-  rest-skip (suc zero) l f = rest-start
-  rest-skip (suc (suc d)) l f = go (le-or-lt (suc d) h) (rest-skip (suc d) (omega arith) (λ x k m. f x k (omega arith)))
+  -- a search may go on from e where nothing from d on passes before e
+  pub rest-skip : (d e : ℕ) → d ≤ e → ((x : ℕ) → d ≤ x → x < e → x ≤ h → p x ≡ false) → rest p h d ≡ rest p h e
+  rest-skip d zero l f = let e : d ≡ 0 = omega arith in ap (rest p h) e
+  rest-skip d (suc e) l f = go (eq-or-lt-of-le l) (le-or-lt e h) (λ k. rest-skip d e k (λ x i j. f x i (omega arith)))
     where
-      go : (suc d ≤ h) ⊎ (h < suc d) → rest p h (suc d) ≡ least p h 1 → rest p h (suc (suc d)) ≡ least p h 1
-      go (inl k) e = ap (rest p h) (sym (add-one (suc d))) ∙ sym (rest-miss (suc d) k (f (suc d) (omega arith) (omega arith))) ∙ e
-      go (inr k) e = rest-end (suc (suc d)) (omega arith) ∙ sym (rest-end (suc d) k) ∙ e
+      go : (d ≡ suc e) ⊎ (d < suc e) → (e ≤ h) ⊎ (h < e) → (d ≤ e → rest p h d ≡ rest p h e) → rest p h d ≡ rest p h (suc e)
+      go (inl q) c w = ap (rest p h) q
+      go (inr k) (inl i) w = w (omega arith) ∙ rest-miss e i (f e (omega arith) (omega arith) i) ∙ ap (rest p h) (add-one e)
+      go (inr k) (inr i) w = w (omega arith) ∙ rest-end e i ∙ sym (rest-end (suc e) (omega arith))
 
 -- ---- the lowest slot
 
