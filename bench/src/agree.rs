@@ -1,6 +1,8 @@
 //! Whether the library and plain Rust give the same results and leave the
 //! same bytes.
 
+use crate::plain::every_length::EveryLength;
+use crate::plain::jumps::Jumps;
 use crate::plain::{machine, sheet};
 use library::{cuorfelt_analyse, cuorfelt_tick, Reply, Sheet};
 use sim::generate::damage::damaged;
@@ -27,20 +29,31 @@ pub fn library_tick(state: &mut [u8], (mask, supplied, cost): Offer) -> Reply {
 }
 
 pub fn plain_sheet(bytes: &[u8], row: &mut [u16]) -> Sheet {
-    sheet::analyse(bytes, row)
+    sheet::analyse::<Jumps>(bytes, row)
 }
+
+pub fn every_length_sheet(bytes: &[u8], row: &mut [u16]) -> Sheet {
+    sheet::analyse::<EveryLength>(bytes, row)
+}
+
+type Analyse = fn(&[u8], &mut [u16]) -> Sheet;
+
+const PLAIN: [(&str, Analyse); 2] = [("plain", plain_sheet), ("every length", every_length_sheet)];
 
 pub fn plain_tick(state: &mut [u8], (mask, supplied, cost): Offer) -> Reply {
     machine::tick(state, mask, supplied, cost)
 }
 
-/// The sheet that both give.
+/// The sheet that all three give.
 pub fn sheets(bytes: &[u8]) -> Result<Sheet, String> {
-    let (mut ours, mut theirs) = ([7; PLACES], [7; PLACES]);
+    let mut ours = [7; PLACES];
     let library = library_sheet(bytes, &mut ours);
-    let plain = plain_sheet(bytes, &mut theirs);
-    if library != plain || ours != theirs {
-        return Err(format!("{library:?} {ours:?}, plain {plain:?} {theirs:?}"));
+    for (name, analyse) in PLAIN {
+        let mut theirs = [7; PLACES];
+        let plain = analyse(bytes, &mut theirs);
+        if library != plain || ours != theirs {
+            return Err(format!("{library:?} {ours:?}, {name} {plain:?} {theirs:?}"));
+        }
     }
     Ok(library)
 }

@@ -2,6 +2,9 @@
 //! bytes, the same searches, the same refusals. It is what the library is
 //! timed against.
 
+mod curves;
+pub mod every_length;
+pub mod jumps;
 pub mod machine;
 pub mod sheet;
 pub mod table;

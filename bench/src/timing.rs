@@ -3,8 +3,9 @@
 use crate::work::{Side, Work};
 use std::time::{Duration, Instant};
 
-pub const HEADING: &str = "| work | calls a pass | library | plain Rust | ratio | passes |\n\
-                           |---|---:|---:|---:|---:|---:|";
+pub const HEADING: &str =
+    "| work | calls a pass | library | plain Rust | ratio | every length | times as fast | passes |\n\
+     |---|---:|---:|---:|---:|---:|---:|---:|";
 
 /// A pass is repeated until it takes this long, and passes until all do.
 const PASS: Duration = Duration::from_millis(2);
@@ -33,28 +34,49 @@ fn median(mut values: Vec<f64>) -> f64 {
     values[values.len() / 2]
 }
 
-/// One row of the table: the median time of a call on either side, and the
-/// median of the ratios of neighbouring passes.
+/// How often a side is called in a pass, so that the pass is long enough.
+fn times(work: &Work, side: Side) -> u32 {
+    let once = timed(work, side, 1);
+    (PASS.as_nanos() / once.as_nanos().max(1)) as u32 + 1
+}
+
+/// One row of the table: the median time of a call of the library and of the
+/// plain Rust that does the same, the median of the ratios of neighbouring
+/// passes, and for a sheet the median time of the search of every length and
+/// how many times it is that of the library.
 pub fn measured(work: &Work) -> String {
-    let once = timed(work, Side::Plain, 1) + timed(work, Side::Library, 1);
-    let times = (2 * PASS.as_nanos() / once.as_nanos().max(1)) as u32 + 1;
-    let calls = f64::from(times) * work.count() as f64;
+    let often = times(work, Side::Plain);
+    let calls = f64::from(often) * work.count() as f64;
     let (mut library, mut plain, mut ratios) = (Vec::new(), Vec::new(), Vec::new());
     let begun = Instant::now();
     while library.len() < LEAST_PASSES || begun.elapsed() < ALL {
-        let ours = timed(work, Side::Library, times).as_nanos() as f64;
-        let theirs = timed(work, Side::Plain, times).as_nanos() as f64;
+        let ours = timed(work, Side::Library, often).as_nanos() as f64;
+        let theirs = timed(work, Side::Plain, often).as_nanos() as f64;
         library.push(ours / calls);
         plain.push(theirs / calls);
         ratios.push(ours / theirs);
     }
     let passes = library.len();
+    let library = median(library);
     format!(
-        "| {} | {calls} | {} a {} | {} | {:.2} | {passes} |",
+        "| {} | {calls} | {} a {} | {} | {:.2} | {} | {passes} |",
         work.name,
-        readable(median(library)),
+        readable(library),
         work.unit,
         readable(median(plain)),
-        median(ratios)
+        median(ratios),
+        every_length(work, library)
     )
+}
+
+/// The columns of the search of every length, empty where nothing is searched.
+fn every_length(work: &Work, library: f64) -> String {
+    if !work.searches() {
+        return "| ".into();
+    }
+    let often = times(work, Side::EveryLength);
+    let calls = f64::from(often) * work.count() as f64;
+    let pass = || timed(work, Side::EveryLength, often).as_nanos() as f64 / calls;
+    let every = median((0..LEAST_PASSES).map(|_| pass()).collect());
+    format!("{} | {:.1}", readable(every), every / library)
 }

@@ -22,11 +22,13 @@ enum Calls {
     Ticks(Vec<u8>, Vec<Offer>),
 }
 
-/// Which of the two is called.
+/// Which of them is called.
 #[derive(Clone, Copy)]
 pub enum Side {
     Library,
     Plain,
+    /// The plain analyser that tries every length; of a tick there is none.
+    EveryLength,
 }
 
 impl Work {
@@ -46,6 +48,11 @@ impl Work {
         }
     }
 
+    /// Whether lengths are searched.
+    pub fn searches(&self) -> bool {
+        matches!(self.calls, Calls::Sheets(_))
+    }
+
     /// How many calls one pass makes.
     pub fn count(&self) -> usize {
         match &self.calls {
@@ -58,10 +65,11 @@ impl Work {
         match (&self.calls, side) {
             (Calls::Sheets(tables), Side::Library) => sheets(tables, agree::library_sheet),
             (Calls::Sheets(tables), Side::Plain) => sheets(tables, agree::plain_sheet),
+            (Calls::Sheets(tables), Side::EveryLength) => sheets(tables, agree::every_length_sheet),
             (Calls::Ticks(state, offers), Side::Library) => {
                 ticks(state, offers, agree::library_tick)
             }
-            (Calls::Ticks(state, offers), Side::Plain) => ticks(state, offers, agree::plain_tick),
+            (Calls::Ticks(state, offers), _) => ticks(state, offers, agree::plain_tick),
         }
     }
 

@@ -1,49 +1,18 @@
-//! The analyser: the window by lengths; for each callback the offsets, each
-//! search going on from the length that the offset before found.
+//! The analyser, over either search.
 
-use super::table::{read, refuse, Callback, Table, LARGEST, PLACES};
+use super::curves::arrivals;
+use super::table::{read, refuse, Table, LARGEST, PLACES};
 use library::{Refusal, Sheet};
 
 const MOST_WAITING: u32 = 255;
 
-fn arrivals(head: &Callback, length: u32) -> u32 {
-    let by_period = (length + u32::from(head.jitter)).div_ceil(head.period.into());
-    let by_distance = length.div_ceil(head.distance.into());
-    by_period.min(by_distance)
-}
+/// How window and bounds are searched for.
+pub trait Search {
+    fn window(table: &Table, heads: &[u8; PLACES], horizon: u32) -> Option<u32>;
 
-fn cost(callback: &Callback, count: u32) -> u64 {
-    let entries = u32::from(callback.entries);
-    let (whole, rest) = (count / entries, count % entries);
-    let last = u64::from(callback.cost[callback.entries as usize - 1]);
-    let part = if rest == 0 {
-        0
-    } else {
-        callback.cost[rest as usize - 1]
-    };
-    u64::from(whole) * last + u64::from(part)
-}
-
-fn supply(table: &Table, length: u32) -> u32 {
-    let (budget, period) = (u32::from(table.budget), u32::from(table.period));
-    let (gap, delay) = (period - budget, u32::from(table.delay));
-    if length < delay + gap {
-        return 0;
-    }
-    let length = length - delay;
-    let whole = (length - gap) / period;
-    whole * budget + length.saturating_sub(2 * gap + whole * period)
-}
-
-/// E of a slot at the arrivals of its head in a window.
-fn work(table: &Table, heads: &[u8; PLACES], slot: usize, length: u32) -> u64 {
-    let head = &table.callbacks[usize::from(heads[slot])];
-    cost(&table.callbacks[slot], arrivals(head, length))
-}
-
-fn demand_but(table: &Table, heads: &[u8; PLACES], but: usize, length: u32) -> u64 {
-    let slots = (0..table.count).filter(|&slot| slot != but);
-    slots.map(|slot| work(table, heads, slot, length)).sum()
+    /// For each callback the offsets, each search going on from the length
+    /// that the offset before found.
+    fn bound(table: &Table, heads: &[u8; PLACES], slot: usize, window: u32) -> u32;
 }
 
 /// The slot of the head of each slot's chain.
@@ -59,40 +28,20 @@ fn heads_of(table: &Table) -> [u8; PLACES] {
     heads
 }
 
-fn window(table: &Table, heads: &[u8; PLACES]) -> Option<u32> {
-    let horizon = match table.horizon {
-        0 => LARGEST,
-        given => given,
-    };
-    let none = table.count;
-    (1..=u32::from(horizon))
-        .find(|&length| demand_but(table, heads, none, length) <= supply(table, length).into())
-}
-
-fn bound(table: &Table, heads: &[u8; PLACES], slot: usize, window: u32) -> u32 {
-    let mut worst = 0;
-    let mut length = 1;
-    let mut others = demand_but(table, heads, slot, length);
-    let mut supplied = supply(table, length);
-    for offset in 0..window {
-        let own = work(table, heads, slot, offset + 1);
-        while u64::from(supplied) < own + others {
-            length += 1;
-            others = demand_but(table, heads, slot, length);
-            supplied = supply(table, length);
-        }
-        worst = worst.max(length.saturating_sub(offset));
+fn horizon(table: &Table) -> u32 {
+    match table.horizon {
+        0 => LARGEST.into(),
+        given => given.into(),
     }
-    worst
 }
 
-fn sheet(bytes: &[u8], row: &mut [u16]) -> Result<u32, Refusal> {
+fn sheet<S: Search>(bytes: &[u8], row: &mut [u16]) -> Result<u32, Refusal> {
     if row.len() < PLACES {
         return Err(refuse(17, 0));
     }
     let table = read(bytes)?;
     let heads = heads_of(&table);
-    let window = window(&table, &heads).ok_or(refuse(15, 0))?;
+    let window = S::window(&table, &heads, horizon(&table)).ok_or(refuse(15, 0))?;
     let crowded = |&slot: &usize| {
         table.heads & (1 << slot) != 0 && arrivals(&table.callbacks[slot], window) > MOST_WAITING
     };
@@ -100,14 +49,14 @@ fn sheet(bytes: &[u8], row: &mut [u16]) -> Result<u32, Refusal> {
         return Err(refuse(16, slot as u8 + 1));
     }
     for (slot, place) in row[..table.count].iter_mut().enumerate() {
-        *place = bound(&table, &heads, slot, window) as u16;
+        *place = S::bound(&table, &heads, slot, window) as u16;
     }
     Ok(window)
 }
 
 #[inline(never)]
-pub fn analyse(bytes: &[u8], row: &mut [u16]) -> Sheet {
-    match sheet(bytes, row) {
+pub fn analyse<S: Search>(bytes: &[u8], row: &mut [u16]) -> Sheet {
+    match sheet::<S>(bytes, row) {
         Ok(window) => Sheet {
             window: window as u16,
             number: 0,

@@ -1,5 +1,5 @@
 -- Laws of the arrivals a(D): none in no time, at most one more a tick, so never more than D.
--- ceiling-mono, ceiling-step, ceiling-zero: x / y rounded up. arrivals-none, arrivals-some, arrivals-mono, arrivals-step, arrivals-le.
+-- ceiling-mono, ceiling-step, ceiling-zero, ceiling-first: x / y rounded up. arrivals-none, arrivals-first, arrivals-some, arrivals-mono, arrivals-step, arrivals-le.
 use mathlib.Core.Path.{_≡_, refl}
 use Prim.Native.Nat.{ℕ, zero, suc, _+_, _-_, _/_, _≤_, _<_, min}
 use native.Mathlib.Nat.{le-div-iff-mul-le, div-lt-iff-lt-mul, div-mul-le-self, lt-div-mul-add, zero-add, div-eq-of-lt}
@@ -21,6 +21,10 @@ pub ceiling-zero : (k : ℕ) → 0 < k → ceiling 0 k ≡ 0
 unfolding ceiling
 ceiling-zero k p = rw zero-add (div-eq-of-lt (omega arith))
 
+pub ceiling-first : (x k : ℕ) → 0 < k → 0 < x → 0 < ceiling x k
+unfolding ceiling
+ceiling-first x k p h = le-div-iff-mul-le p .1 (omega arith)
+
 module _ (period jitter distance : ℕ) where
   pub arrivals-none : arrivals period jitter distance 0 ≡ 0
   unfolding arrivals
@@ -33,6 +37,11 @@ module _ (period jitter distance : ℕ) where
   arrivals-some (suc n) h = refl
 
   module _ (some-period : 0 < period) (some-distance : 0 < distance) where
+    -- one tick may hold an arrival
+    pub arrivals-first : 0 < arrivals period jitter distance 1
+    unfolding arrivals
+    arrivals-first = omega (arith, ceiling-first (1 + jitter) period some-period (omega arith), ceiling-first 1 distance some-distance (omega arith))
+
     -- a does not fall
     pub arrivals-mono : (n : ℕ) → arrivals period jitter distance n ≤ arrivals period jitter distance (suc n)
     unfolding arrivals

@@ -1,8 +1,9 @@
--- Laws of the demand: whose instances are charged (limit-own, limit-other), and more instances bring no less work (demand-le).
-use mathlib.Core.Path.{_≡_, refl}
+-- Laws of the demand: whose instances are charged (limit-own, limit-other), more instances bring no less work (demand-le), and neither does a longer window (whole-up, part-up).
+use mathlib.Core.Path.{_≡_, refl, sym, subst}
 use mathlib.Core.Logic.{_≢_}
 use Prim.Native.Nat.{ℕ, suc, _≤_, _<_}
 use native.Mathlib.Nat.{le-refl, le-of-lt}
+use native.Mathlib.Decide.{ℕ-discrete}
 use borrow.Author.Tests.{eq-eqb, ne-eqb}
 use Rattle.curves.specs.Demand.{demand, limit}
 use Rattle.curves.specs.Parts.{Rising}
@@ -27,3 +28,15 @@ module _ (n : ℕ) (a e : ℕ → ℕ → ℕ) (up : Rising n a e) where
 
   pub demand-le : (m m' : ℕ → ℕ) → ((i : ℕ) → i < n → m i ≤ m' i) → demand n e m ≤ demand n e m'
   demand-le m m' h = sum-le (λ i. e i (m i)) (λ i. e i (m' i)) n (λ i l. cost-upto i (m i) (m' i) l (h i l))
+
+  -- in a longer window the demand of all does not fall
+  pub whole-up : (D : ℕ) → demand n e (λ i. a i D) ≤ demand n e (λ i. a i (suc D))
+  whole-up D = demand-le (λ i. a i D) (λ i. a i (suc D)) (λ i l. up .a-up i D l)
+
+  -- nor that of an offset
+  pub part-up : (x A D : ℕ) → demand n e (limit a x A D) ≤ demand n e (limit a x A (suc D))
+  part-up x A D = demand-le (limit a x A D) (limit a x A (suc D)) (λ i l. go i l (ℕ-discrete i x))
+    where
+      go : (i : ℕ) → i < n → Dec (i ≡ x) → limit a x A D i ≤ limit a x A (suc D) i
+      go i l (yes p) = subst (λ (y : ℕ). limit a x A D y ≤ limit a x A (suc D) y) (sym p) (rw (limit-own a x A D, limit-own a x A (suc D)) (le-refl _))
+      go i l (no p) = rw (limit-other a x A D i p, limit-other a x A (suc D) i p) (up .a-up i D l)

@@ -7,7 +7,7 @@ ghost use Rattle.numbers.specs.Numbers.{longest};
 ghost use Rattle.curves.specs.Parts.{maxLength};
 ghost use Rattle.curves.specs.Arrivals.{arrivals as arrivalsOf};
 ghost use Rattle.curves.specs.Cost.{cost as costOf};
-ghost use Rattle.curves.specs.Supply.{delayedSupply, reach as reachOf, reachUpTo};
+ghost use Rattle.curves.specs.Supply.{reach as reachOf, reachUpTo};
 
 // a(length): the activations of a head in any window of that many ticks, at most; 0 for no ticks, whatever the jitter.
 pub fn arrivals(period: u32, jitter: u32, distance: u32, length: u32) -> u32
@@ -38,29 +38,6 @@ pub fn cost(entries: [u16; 8], used: u8, count: u32) -> u64
         return whole;
     }
     whole + entries[left - 1] as u64
-}
-
-// The supplied ticks of any window of that many ticks, at least: s(length - delay), and 0 for a length below the delay.
-// 32 bits hold all that is formed on the way: the largest, `begun`, exceeds what is left of the length by no more than one gap.
-pub fn supply(budget: u32, period: u32, delay: u32, length: u32) -> u32
-    requires { ⌜ (0 < budget) × (budget ≤ period) × (period ≤ longest) × (length ≤ maxLength) ⌝ }
-    ensures { λ r. ⌜ (r ≡ delayedSupply budget period delay length) × (r ≤ length) ⌝ }
-{
-    if length < delay {
-        return 0;
-    }
-    let d = length - delay;
-    let gap = period - budget;
-    if d < gap {
-        return 0;
-    }
-    let k = (d - gap) / period;
-    let whole = k * budget;
-    let begun = 2 * gap + k * period;
-    if begun < d {
-        return whole + (d - begun);
-    }
-    whole
 }
 
 // The least length whose supply is at least `demand`; for a demand above `most` the length past `most`, since no length supplies more ticks than it has.

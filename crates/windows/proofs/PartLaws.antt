@@ -1,4 +1,4 @@
--- Laws of the analyser's parts: the head of a slot (head-within, head-spaced), the work of a slot by its head (work-of), the demand of all but one slot as a loop adds it (but-skip, but-add),
+-- Laws of the analyser's parts: the head of a slot (head-within, head-spaced), its arrivals and work by its head (arrivals-of, work-of), the demand of all but one slot as a loop adds it (but-skip, but-add),
 -- and what that demand makes of the window's (demand-all) and of an offset's (demand-own).
 use mathlib.Core.Path.{_≡_, refl, sym, ap, subst, _∙_}
 use mathlib.Core.Logic.{_⊎_, inl, inr, _≢_}
@@ -19,7 +19,7 @@ use Rattle.rules.proofs.Heads.{head-lt}
 use Rattle.windows.proofs.TableLaws.{spaced}
 use Rattle.chains.specs.Chains.{headOf}
 use Rattle.windows.specs.Bounds.{arrivalsOf, costOf}
-use Rattle.windows.specs.Parts.{workOf, workBut, demandBut, Spaced, Headed}
+use Rattle.windows.specs.Parts.{headArrivals, workOf, workBut, demandBut, Spaced, Headed}
 
 -- the head that is at hand for slot i lies in the table, and its arrivals can be asked for
 module _ (t : Table) (heads : List ℕ) (ready : Headed t heads) (i : ℕ) (below : i < t .count) where
@@ -29,7 +29,12 @@ module _ (t : Table) (heads : List ℕ) (ready : Headed t heads) (i : ℕ) (belo
   pub head-spaced : Spaced (callbackAt t (getD heads i 0))
   head-spaced = subst (λ (h : ℕ). Spaced (callbackAt t h)) (sym (ready .headed i below)) (spaced t (ready .sound) i below)
 
--- the work of slot i, its head h at hand
+-- the arrivals of slot i, its head h at hand
+pub arrivals-of : (t : Table) (i h D : ℕ) → h ≡ headOf t i → headArrivals (callbackAt t h) D ≡ arrivalsOf t i D
+unfolding arrivalsOf
+arrivals-of t i h D e = ap (λ (g : ℕ). headArrivals (callbackAt t g) D) e
+
+-- the work of slot i
 pub work-of : (t : Table) (i h D : ℕ) → h ≡ headOf t i → workOf (callbackAt t i) (callbackAt t h) D ≡ costOf t i (arrivalsOf t i D)
 unfolding workOf costOf arrivalsOf
 work-of t i h D e = ap (λ (g : ℕ). workOf (callbackAt t i) (callbackAt t g) D) e

@@ -1,4 +1,4 @@
--- What a table that the reader accepts ensures of its curves: spaced, costed, sound-rising. head-own: whether a slot leads itself.
+-- What a table that the reader accepts ensures of its curves: spaced, costed, sound-rising, sound-turned. head-own: whether a slot leads itself.
 -- horizon-in: the horizon is a length that curves can be asked for. heads-more: the heads of the slots, as a loop writes them.
 use mathlib.Core.Path.{_≡_, refl, sym, ap, subst, _∙_}
 use mathlib.Core.Logic.{_⊎_, inl, inr}
@@ -12,10 +12,11 @@ use lib.Dec.{eqb}
 use lib.ListN.{length, getD, set}
 use lib.Seq.{getD-set-same, getD-set-other}
 use borrow.Author.Tests.{eq-eqb, ne-eqb}
-use Rattle.curves.specs.Parts.{Rising}
+use Rattle.curves.specs.Parts.{Rising, Turned}
 use Rattle.ranges.proofs.EveryLaws.{never-both}
 use Rattle.curves.proofs.ArrivalsLaws.{arrivals-mono}
 use Rattle.curves.proofs.CostLaws.{cost-up}
+use Rattle.curves.proofs.SupplyLaws.{supply-turned}
 use Rattle.table.specs.declared.Callback.{Callback}
 use Rattle.table.specs.declared.Table.{Table}
 use Rattle.numbers.specs.Numbers.{longest}
@@ -24,8 +25,8 @@ use Rattle.table.specs.Links.{isHead}
 use Rattle.rules.specs.Parts.{Sound}
 use Rattle.rules.proofs.Heads.{head-lt, head-self, head-is-head}
 use Rattle.chains.specs.Chains.{headOf}
-use Rattle.windows.specs.Bounds.{arrivalsOf, costOf}
-use Rattle.windows.specs.Parts.{Spaced, Costed}
+use Rattle.windows.specs.Bounds.{arrivalsOf, costOf, supplyOf}
+use Rattle.windows.specs.Parts.{reachOf, Spaced, Costed}
 
 module _ (t : Table) (so : Sound t) where
   -- the arrivals of each chain's head
@@ -57,6 +58,11 @@ module _ (t : Table) (so : Sound t) where
     a-up = λ i d l. let c : Callback = callbackAt t (headOf t i) in arrivals-mono (c .period) (c .jitter) (c .distance) (spaced i l .period-some) (spaced i l .distance-some) d;
     e-up = λ i m l. cost-up (entriesOf (callbackAt t i)) (costed i l .listed) (costed i l .rising) m;
   }
+
+  -- its supply is turned around by the lengths that reach it
+  pub sound-turned : (most : ℕ) → Turned most (supplyOf t) (reachOf t most)
+  unfolding supplyOf reachOf
+  sound-turned = supply-turned (t .budget) (t .period) (t .delay) (so .budget-some) (so .budget-le)
 
   -- a head leads itself, and nobody else does
   pub head-own : (i : ℕ) → i < t .count → isHead t i ≡ eqb (headOf t i) i

@@ -1,15 +1,18 @@
 -- Laws of window, finish and bound, over curves of which a does not fall and e rises.
--- window: window-settles, window-least, window-none, window-by. finish: finish-within, finish-covers, finish-least, finish-up.
+-- window: window-settles, window-least, window-none, window-by. finish: finish-within, finish-covers, finish-least, finish-up, finish-same.
 -- bound: bound-covers, bound-le, bound-some. The window is 0 where there is none: each law of finish and bound assumes an offset below it.
-use mathlib.Core.Path.{_≡_, sym, subst}
+use mathlib.Core.Path.{_≡_, sym, ap, subst}
 use mathlib.Core.Logic.{_⊎_, inl, inr, _≢_}
+use mathlib.Core.Bool.{true, false}
 use Prim.Native.Nat.{ℕ, suc, _+_, _-_, _≤_, _<_}
 use native.Mathlib.Nat.{le-refl}
 use native.Mathlib.Decide.{ℕ-discrete}
 use native.Mathlib.Omega.{arith}
+use lib.Dec.{eqb, leb}
 use borrow.Author.Tests.{leb-true, leb-false, le-leb}
 use Rattle.curves.specs.Demand.{demand, limit}
 use Rattle.curves.specs.Parts.{Rising}
+use Rattle.ranges.specs.Least.{least}
 use Rattle.ranges.proofs.SumLaws.{le-or-lt}
 use Rattle.ranges.proofs.LeastLaws.{First, least-found, least-by, largest-le, largest-upper}
 use Rattle.curves.proofs.DemandLaws.{limit-own, limit-other, arrivals-upto, demand-le}
@@ -65,6 +68,12 @@ module _ (n : ℕ) (a e : ℕ → ℕ → ℕ) (s : ℕ → ℕ) (H : ℕ) where
       go : (whole D ≤ s D) ⊎ (s D < whole D) → s D < whole D
       go (inl h) = absurd (omega (arith, window-by D p l h .0))
       go (inr h) = h
+
+  -- F reads an offset by the instances of x that it charges, and by nothing else
+  pub finish-same : (x A B : ℕ) → a x (suc A) ≡ a x (suc B) → finish n a e s H x A ≡ finish n a e s H x B
+  unfolding finish coveredFor limit
+  finish-same x A B h =
+      ap (λ (m : ℕ). least (λ D. leb (demand n e (λ j. elim (eqb j x) [ true ↦ m | false ↦ a j D ])) (s D)) H 1) h
 
   module _ (up : Rising n a e) (x : ℕ) where
     -- a length past the offset that covers the whole demand covers the offset's

@@ -9,6 +9,7 @@ use Rattle.ranges.specs.Sum.{sum}
 use Rattle.numbers.specs.Numbers.{entryPlaces, longest}
 use Rattle.curves.specs.Arrivals.{arrivals}
 use Rattle.curves.specs.Cost.{cost}
+use Rattle.curves.specs.Supply.{reach, reachUpTo}
 use Rattle.curves.specs.Parts.{RisingEntries}
 use Rattle.table.specs.declared.Callback.{Callback}
 use Rattle.table.specs.declared.Table.{Table}
@@ -44,6 +45,10 @@ coveredOf t = covered (t .count) (arrivalsOf t) (costOf t) (supplyOf t)
 
 unfoldable pub finishOf : Table → ℕ → ℕ → ℕ
 finishOf t = finish (t .count) (arrivalsOf t) (costOf t) (supplyOf t) (horizonOf t)
+
+-- the least length whose supply in the table is at least x, of the lengths up to `most`; what lies past them where there is none for x alone
+unfoldable pub reachOf : Table → ℕ → ℕ → ℕ
+reachOf t most = reachUpTo most (reach (t .budget) (t .period) (t .delay))
 
 -- what the curves ask of a head's record
 pub record Spaced (c : Callback) : Type 0 where

@@ -6,11 +6,10 @@ use table::Table;
 ghost use mathlib.Core.Path.{_≡_};
 ghost use Prim.Native.Nat.{ℕ, _<_, _≤_, _*_, _-_, max};
 ghost use Rattle.numbers.specs.Numbers.{places, longest};
-ghost use Rattle.curves.specs.Parts.{maxLength};
 ghost use Rattle.table.specs.Values.{horizonOf};
 ghost use Rattle.rules.specs.Parts.{Sound};
-ghost use Rattle.windows.specs.Bounds.{supplyOf, windowOf, boundOf};
-ghost use Rattle.windows.specs.Parts.{mostWork, headArrivals, workOf, demandBut, Spaced, Costed, Headed};
+ghost use Rattle.windows.specs.Bounds.{windowOf, boundOf};
+ghost use Rattle.windows.specs.Parts.{mostWork, headArrivals, workOf, demandBut, reachOf, Spaced, Costed, Headed};
 
 // The head of each slot's chain, for the slots below count.
 pub fn heads_of(t: Table) -> [u8; 16]
@@ -70,15 +69,22 @@ fn demand_but(t: Table, heads: [u8; 16], x: usize, length: u32) -> u64
     sum
 }
 
-// The supply of a table in a window of `length` ticks.
-fn supply(t: Table, length: u32) -> u32
-    requires { ⌜ Sound t × (length ≤ maxLength) ⌝ }
-    ensures { λ r. ⌜ r ≡ supplyOf t length ⌝ }
+// The least length whose supply covers a demand; the one past `most` where none up to `most` does it for the demand alone.
+fn reach(t: Table, most: u32, demand: u64) -> u32
+    requires { ⌜ Sound t × (most ≤ longest) ⌝ }
+    ensures { λ r. ⌜ r ≡ reachOf t most demand ⌝ }
 {
-    curves::supply(t.budget as u32, t.period as u32, t.delay as u32, length)
+    curves::reach(
+        t.budget as u32,
+        t.period as u32,
+        t.delay as u32,
+        most,
+        demand,
+    )
 }
 
 // W: the least length in 1 to the horizon whose supply covers the demand of all callbacks; 0 where there is none.
+// Demand does not fall: where a length is not covered, none is before the one that supplies its demand.
 pub fn window(t: Table, heads: [u8; 16], horizon: u32) -> u32
     requires { ⌜ Headed t heads × (horizon ≡ horizonOf t) × (horizon ≤ longest) ⌝ }
     ensures { λ r. ⌜ (r ≡ windowOf t) × (r ≤ longest) ⌝ }
@@ -87,10 +93,11 @@ pub fn window(t: Table, heads: [u8; 16], horizon: u32) -> u32
     let mut length: u32 = 1;
     while length <= horizon {
         let demand = demand_but(t, heads, n, length);
-        if demand <= supply(t, length) as u64 {
+        let next = reach(t, horizon, demand);
+        if next <= length {
             return length;
         }
-        length += 1;
+        length = next;
     }
     0
 }
@@ -109,7 +116,7 @@ fn worse(worst: u32, finish: u32, offset: u32) -> u32
 }
 
 // The bound of slot x: the largest F(A) - A over the offsets A below the window. F does not fall, so that each search goes on from
-// the length that the offset before found.
+// the length that the offset before found. Where no instance of x is added, F is that of the offset before, and nothing is searched.
 pub fn bound(t: Table, heads: [u8; 16], x: usize, window: u32) -> u32
     requires { ⌜ Headed t heads × (x < t .count) × (window ≡ windowOf t) × (window ≤ longest) ⌝ }
     ensures { λ r. ⌜ (r ≡ boundOf t x) × (r ≤ longest) ⌝ }
@@ -120,17 +127,23 @@ pub fn bound(t: Table, heads: [u8; 16], x: usize, window: u32) -> u32
     let mut worst: u32 = 0;
     let mut length: u32 = 1;
     let mut others = demand_but(t, heads, x, length);
+    let mut count: u32 = 0;
     let mut offset: u32 = 0;
     while offset < window {
-        let own = work(c, g, offset + 1);
-        let finish = loop {
-            if own + others <= supply(t, length) as u64 {
-                break length;
-            }
-            length += 1;
-            others = demand_but(t, heads, x, length);
-        };
-        worst = worse(worst, finish, offset);
+        let charged = arrivals(g, offset + 1);
+        if charged != count {
+            count = charged;
+            let own = work(c, g, offset + 1);
+            let finish = loop {
+                let next = reach(t, window, own + others);
+                if next <= length {
+                    break length;
+                }
+                length = next;
+                others = demand_but(t, heads, x, length);
+            };
+            worst = worse(worst, finish, offset);
+        }
         offset += 1;
     }
     worst

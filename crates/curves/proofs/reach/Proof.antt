@@ -18,12 +18,15 @@ Counted = lts.Else2 reads.Pre reads.Post
 abbrev k : Counted → ℕ
 k c = (c .before .before .args .demand - 1) / c .before .before .args .budget
 
--- the budgets lie within the demand, and so many periods within 32 bits
-within : (c : Counted) → (k c * c .before .before .args .budget ≤ c .before .before .args .demand - 1) × (k c * c .before .before .args .period ≤ (longest - 1) * longest)
-within c =
-    let a = c .before .before .args in
-    let few : k c ≤ longest - 1 = omega (arith, div-le-self (a .demand - 1) (a .budget)) in
-    (div-mul-le-self (a .demand - 1) (a .budget), mul-le-mul few (c .before .before .pre .2))
+-- the budgets lie before the last tick of the demand
+budgets : (c : Counted) → k c * c .before .before .args .budget ≤ c .before .before .args .demand - 1
+budgets c = div-mul-le-self (c .before .before .args .demand - 1) (c .before .before .args .budget)
+
+-- and as many periods within 32 bits
+periods : (c : Counted) → k c * c .before .before .args .period ≤ (longest - 1) * longest
+periods c =
+    let few : k c ≤ longest - 1 = omega (arith, div-le-self (c .before .before .args .demand - 1) (c .before .before .args .budget)) in
+    mul-le-mul few (c .before .before .pre .2)
 
 returns : tie.Need-returns
 returns c = let a = c .before .args in omega (arith, reach-above (a .most) (a .demand) (reach (a .budget) (a .period) (a .delay)) (c .if1 .taken))
@@ -34,22 +37,22 @@ returns-2 c =
     sym (reach-inside (a .most) (a .demand) (reach (a .budget) (a .period) (a .delay)) (c .before .if1 .left) ∙ reach-none (a .budget) (a .period) (a .delay) (a .demand) (c .if2 .taken))
 
 mul-rest : tie.Need-mul-rest
-mul-rest c = omega (arith, within c)
+mul-rest c = omega (arith, budgets c)
 
 sub-rest : tie.Need-sub-rest
-sub-rest c = omega (arith, within c)
+sub-rest c = omega (arith, budgets c)
 
 mul-result : tie.Need-mul-result
-mul-result c = omega (arith, within c)
+mul-result c = omega (arith, periods c)
 
 add-result-2 : tie.Need-add-result-2
-add-result-2 c = omega (arith, within c)
+add-result-2 c = omega (arith, periods c)
 
 add-result-3 : tie.Need-add-result-3
-add-result-3 c = omega (arith, within c)
+add-result-3 c = omega (arith, periods c)
 
 add-result-4 : tie.Need-add-result-4
-add-result-4 c = omega (arith, within c)
+add-result-4 c = omega (arith, periods c)
 
 returns-3 : tie.Need-returns-3
 returns-3 c =

@@ -4,32 +4,32 @@ use Prim.Native.Nat.{_+_, _-_, _≤_}
 use borrow.Author.Needs.{needs}
 use native.Mathlib.Omega.{arith}
 use Rattle.ranges.proofs.LeastLaws.{rest}
-use Rattle.windows.proofs.SearchLaws.{window-start, window-hit, window-miss, window-end}
+use Rattle.windows.proofs.SearchLaws.{window-start, window-hit, window-jump, window-end}
 use Rattle.windows.proofs.window.Statement.{statement}
 use Rattle.windows.proofs.window.Tie as tie
 use Rattle.windows.specs.Bounds.{windowOf}
 use Rattle.windows.specs.Parts.{coveredOf}
 
 abbrev Inv-loop : tie.InvT-loop
-Inv-loop t heads horizon n length₀ length = (1 ≤ length) × (length ≤ horizon + 1) × (rest (coveredOf t) horizon length ≡ windowOf t)
+Inv-loop t heads horizon n length₀ length = (1 ≤ length) × (rest (coveredOf t) horizon length ≡ windowOf t)
 
 abbrev μ-loop : tie.MeasureT-loop
 μ-loop t heads horizon n length₀ length = horizon + 1 - length
 
 loop-holds : tie.Need-loop-holds Inv-loop μ-loop
-loop-holds c = (omega arith, omega arith, window-start _ _ (c .before .pre .1))
+loop-holds c = (omega arith, window-start _ _ (c .before .pre .1))
 
 demand-but-requires : tie.Need-demand-but-requires Inv-loop μ-loop
 demand-but-requires c κs = (c .before .before .before .pre .0, omega arith)
 
-supply-requires : tie.Need-supply-requires Inv-loop μ-loop
-supply-requires c κs = (c .before .before .before .before .pre .0 .sound, omega arith)
+reach-requires : tie.Need-reach-requires Inv-loop μ-loop
+reach-requires c κs = (c .before .before .before .before .pre .0 .sound, omega arith)
 
 returns : tie.Need-returns Inv-loop μ-loop
 returns c =
     let start = c .before .before .before .before .before .before in (
-      sym (window-hit (start .args .t) (start .args .horizon) _ _ _ (c .before .before .before .loop-test .taken) (c .before .before .demand-but .ensures .0) (c .before .supply .ensures) (c .if1 .taken))
-          ∙ c .before .before .before .before .loop .inv .2,
+      sym (window-hit (start .args .t) (start .args .heads) (start .pre .0) (start .args .horizon) _ _ _ (c .before .before .demand-but .ensures .0) (c .before .reach .ensures) (c .before .before .before .loop-test .taken) (c .if1 .taken))
+          ∙ c .before .before .before .before .loop .inv .1,
       omega arith,
     )
 
@@ -37,13 +37,12 @@ loop-again : tie.Need-loop-again Inv-loop μ-loop
 loop-again c =
     let start = c .before .before .before .before .before .before in (
       omega arith,
-      omega arith,
-      sym (window-miss (start .args .t) (start .args .horizon) _ _ _ (c .before .before .before .loop-test .taken) (c .before .before .demand-but .ensures .0) (c .before .supply .ensures) (c .if1 .left))
-          ∙ c .before .before .before .before .loop .inv .2,
+      sym (window-jump (start .args .t) (start .args .heads) (start .pre .0) (start .args .horizon) _ _ _ (c .before .before .demand-but .ensures .0) (c .before .reach .ensures) (c .if1 .left))
+          ∙ c .before .before .before .before .loop .inv .1,
     )
 
 returns-2 : tie.Need-returns-2 Inv-loop μ-loop
-returns-2 c = (sym (window-end _ _ _ (c .loop-test .left)) ∙ c .before .loop .inv .2, omega arith)
+returns-2 c = (sym (window-end _ _ _ (c .loop-test .left)) ∙ c .before .loop .inv .1, omega arith)
 
 pub window-spec : {M : Type 1} → statement M
 window-spec =
@@ -54,10 +53,8 @@ window-spec =
     (λ c. search needs)
     loop-holds
     demand-but-requires
-    supply-requires
-    (λ c. search needs)
+    reach-requires
     returns
-    (λ c. search needs)
     (λ c. search needs)
     loop-again
     returns-2)

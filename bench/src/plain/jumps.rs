@@ -1,0 +1,53 @@
+//! The search by jumps: from a length that is not covered to the least whose
+//! supply is its demand, since no length between them has a smaller one.
+
+use super::curves::{arrivals, cost, demand_but, reach};
+use super::sheet::Search;
+use super::table::{Table, PLACES};
+
+pub struct Jumps;
+
+impl Search for Jumps {
+    fn window(table: &Table, heads: &[u8; PLACES], horizon: u32) -> Option<u32> {
+        let mut length = 1;
+        while length <= horizon {
+            let demand = demand_but(table, heads, table.count, length);
+            if demand > horizon.into() {
+                return None;
+            }
+            let next = reach(table, demand as u32);
+            if next <= length {
+                return Some(length);
+            }
+            length = next;
+        }
+        None
+    }
+
+    fn bound(table: &Table, heads: &[u8; PLACES], slot: usize, window: u32) -> u32 {
+        let head = &table.callbacks[usize::from(heads[slot])];
+        let mut worst = 0;
+        let mut length = 1;
+        let mut others = demand_but(table, heads, slot, length);
+        let mut charged = 0;
+        for offset in 0..window {
+            let count = arrivals(head, offset + 1);
+            if count == charged {
+                continue;
+            }
+            charged = count;
+            let own = cost(&table.callbacks[slot], count);
+            loop {
+                // Up to the window no demand is above 60,000.
+                let next = reach(table, (own + others) as u32);
+                if next <= length {
+                    break;
+                }
+                length = next;
+                others = demand_but(table, heads, slot, length);
+            }
+            worst = worst.max(length.saturating_sub(offset));
+        }
+        worst
+    }
+}
