@@ -2,6 +2,7 @@
 //! same bytes, in one run; docs/PERFORMANCE.md says how to read it.
 
 mod agree;
+mod lengths;
 mod plain;
 mod timing;
 mod work;
@@ -12,6 +13,7 @@ const USAGE: &str = "usage:
   bench              figures as a table, once the results are found to be equal
   bench only WORD    of the works with this word in their name
   bench agree        only whether the results are equal
+  bench lengths      how many lengths the sheets of drawn tables take
 ";
 
 fn main() {
@@ -21,6 +23,7 @@ fn main() {
         [] => Some(""),
         ["only", word] => Some(word),
         ["agree"] => None,
+        ["lengths"] => return lengths::grown(),
         _ => {
             eprint!("{USAGE}");
             std::process::exit(2);

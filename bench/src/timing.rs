@@ -76,7 +76,11 @@ fn every_length(work: &Work, library: f64) -> String {
     }
     let often = times(work, Side::EveryLength);
     let calls = f64::from(often) * work.count() as f64;
-    let pass = || timed(work, Side::EveryLength, often).as_nanos() as f64 / calls;
-    let every = median((0..LEAST_PASSES).map(|_| pass()).collect());
+    let mut passes = Vec::new();
+    let begun = Instant::now();
+    while passes.len() < LEAST_PASSES || begun.elapsed() < ALL {
+        passes.push(timed(work, Side::EveryLength, often).as_nanos() as f64 / calls);
+    }
+    let every = median(passes);
     format!("{} | {:.1}", readable(every), every / library)
 }

@@ -135,6 +135,8 @@ fn analyses(random: &mut Random) -> Vec<Work> {
             drawn(random, 4, Shape::Small, unsettled),
         ),
         Work::sheets("16 callbacks, window 59,984", vec![encode(&longest())]),
+        Work::sheets("16 callbacks, 65,740 lengths", vec![encode(&in_turn())]),
+        Work::sheets("2 callbacks, 60,000 lengths", vec![encode(&one_ahead())]),
     ]
 }
 
@@ -196,6 +198,41 @@ fn longest() -> Table {
         horizon: 0,
         delay: 0,
         callbacks: vec![lone; 16],
+    }
+}
+
+/// Callbacks that ask for all ticks of the supply but one in each period, their
+/// activations as far from each other as sixteen can be: each jump passes one of
+/// them. Two more at the beginning stretch the window to nearly the largest.
+fn in_turn() -> Table {
+    const PERIOD: u64 = 239;
+    let callback = |slot: u64| Callback {
+        kind: Kind::Subscription,
+        next: 0,
+        entries: vec![(slot + 1) * (PERIOD - 1) / 16 - slot * (PERIOD - 1) / 16],
+        period: PERIOD,
+        jitter: (15 - slot) * PERIOD / 16 + if slot < 2 { PERIOD } else { 0 },
+        distance: 1,
+    };
+    Table {
+        callbacks: (0..16).map(callback).collect(),
+        ..longest()
+    }
+}
+
+/// In each length the demand is one tick more than the supply, so that no jump
+/// passes a length.
+fn one_ahead() -> Table {
+    let every_second = |jitter| Callback {
+        entries: vec![1],
+        period: 2,
+        jitter,
+        distance: 1,
+        ..longest().callbacks[0].clone()
+    };
+    Table {
+        callbacks: vec![every_second(0), every_second(1)],
+        ..longest()
     }
 }
 

@@ -7,21 +7,30 @@ use super::table::{Table, PLACES};
 pub struct EveryLength;
 
 impl Search for EveryLength {
-    fn window(table: &Table, heads: &[u8; PLACES], horizon: u32) -> Option<u32> {
+    fn window(table: &Table, heads: &[u8; PLACES], horizon: u32, looks: &mut u64) -> Option<u32> {
         let none = table.count;
-        let covered =
-            |&length: &u32| demand_but(table, heads, none, length) <= supply(table, length).into();
-        (1..=horizon).find(covered)
+        (1..=horizon).find(|&length| {
+            *looks += 1;
+            demand_but(table, heads, none, length) <= supply(table, length).into()
+        })
     }
 
-    fn bound(table: &Table, heads: &[u8; PLACES], slot: usize, window: u32) -> u32 {
+    fn bound(
+        table: &Table,
+        heads: &[u8; PLACES],
+        slot: usize,
+        window: u32,
+        looks: &mut u64,
+    ) -> u32 {
         let mut worst = 0;
         let mut length = 1;
         let mut others = demand_but(table, heads, slot, length);
         let mut supplied = supply(table, length);
         for offset in 0..window {
             let own = work(table, heads, slot, offset + 1);
+            *looks += 1;
             while u64::from(supplied) < own + others {
+                *looks += 1;
                 length += 1;
                 others = demand_but(table, heads, slot, length);
                 supplied = supply(table, length);

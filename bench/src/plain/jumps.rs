@@ -8,9 +8,10 @@ use super::table::{Table, PLACES};
 pub struct Jumps;
 
 impl Search for Jumps {
-    fn window(table: &Table, heads: &[u8; PLACES], horizon: u32) -> Option<u32> {
+    fn window(table: &Table, heads: &[u8; PLACES], horizon: u32, looks: &mut u64) -> Option<u32> {
         let mut length = 1;
         while length <= horizon {
+            *looks += 1;
             let demand = demand_but(table, heads, table.count, length);
             if demand > horizon.into() {
                 return None;
@@ -24,7 +25,13 @@ impl Search for Jumps {
         None
     }
 
-    fn bound(table: &Table, heads: &[u8; PLACES], slot: usize, window: u32) -> u32 {
+    fn bound(
+        table: &Table,
+        heads: &[u8; PLACES],
+        slot: usize,
+        window: u32,
+        looks: &mut u64,
+    ) -> u32 {
         let head = &table.callbacks[usize::from(heads[slot])];
         let mut worst = 0;
         let mut length = 1;
@@ -38,6 +45,7 @@ impl Search for Jumps {
             charged = count;
             let own = cost(&table.callbacks[slot], count);
             loop {
+                *looks += 1;
                 // Up to the window no demand is above 60,000.
                 let next = reach(table, (own + others) as u32);
                 if next <= length {

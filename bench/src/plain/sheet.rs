@@ -6,13 +6,15 @@ use library::{Refusal, Sheet};
 
 const MOST_WAITING: u32 = 255;
 
-/// How window and bounds are searched for.
+/// How window and bounds are searched for. `looks` counts the lengths that are
+/// held against a demand.
 pub trait Search {
-    fn window(table: &Table, heads: &[u8; PLACES], horizon: u32) -> Option<u32>;
+    fn window(table: &Table, heads: &[u8; PLACES], horizon: u32, looks: &mut u64) -> Option<u32>;
 
     /// For each callback the offsets, each search going on from the length
     /// that the offset before found.
-    fn bound(table: &Table, heads: &[u8; PLACES], slot: usize, window: u32) -> u32;
+    fn bound(table: &Table, heads: &[u8; PLACES], slot: usize, window: u32, looks: &mut u64)
+        -> u32;
 }
 
 /// The slot of the head of each slot's chain.
@@ -35,13 +37,13 @@ fn horizon(table: &Table) -> u32 {
     }
 }
 
-fn sheet<S: Search>(bytes: &[u8], row: &mut [u16]) -> Result<u32, Refusal> {
+fn sheet<S: Search>(bytes: &[u8], row: &mut [u16], looks: &mut u64) -> Result<u32, Refusal> {
     if row.len() < PLACES {
         return Err(refuse(17, 0));
     }
     let table = read(bytes)?;
     let heads = heads_of(&table);
-    let window = S::window(&table, &heads, horizon(&table)).ok_or(refuse(15, 0))?;
+    let window = S::window(&table, &heads, horizon(&table), looks).ok_or(refuse(15, 0))?;
     let crowded = |&slot: &usize| {
         table.heads & (1 << slot) != 0 && arrivals(&table.callbacks[slot], window) > MOST_WAITING
     };
@@ -49,14 +51,14 @@ fn sheet<S: Search>(bytes: &[u8], row: &mut [u16]) -> Result<u32, Refusal> {
         return Err(refuse(16, slot as u8 + 1));
     }
     for (slot, place) in row[..table.count].iter_mut().enumerate() {
-        *place = S::bound(&table, &heads, slot, window) as u16;
+        *place = S::bound(&table, &heads, slot, window, looks) as u16;
     }
     Ok(window)
 }
 
 #[inline(never)]
 pub fn analyse<S: Search>(bytes: &[u8], row: &mut [u16]) -> Sheet {
-    match sheet::<S>(bytes, row) {
+    match sheet::<S>(bytes, row, &mut 0) {
         Ok(window) => Sheet {
             window: window as u16,
             number: 0,
@@ -68,4 +70,11 @@ pub fn analyse<S: Search>(bytes: &[u8], row: &mut [u16]) -> Sheet {
             index,
         },
     }
+}
+
+/// How many lengths the sheet takes.
+pub fn lengths<S: Search>(bytes: &[u8]) -> u64 {
+    let mut looks = 0;
+    let _ = sheet::<S>(bytes, &mut [0; PLACES], &mut looks);
+    looks
 }

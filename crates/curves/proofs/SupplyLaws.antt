@@ -1,6 +1,7 @@
 -- Laws of the supply s(D): its whole periods lie within D (periods); it is 0 before the first gap has passed (supply-early), and then what suppliedPast says (supply-past).
 -- Behind a delay it is 0 before the delay has passed (delayed-early), and then s of what is left (delayed-past); without one it is s (delayed-none).
--- It is never more than the length (supplied-le). reach turns it around: at reach x the supply is x at least (reach-supplied), and so it stays (reach-enough); at every shorter length it is less (reach-short).
+-- It is never more than the length (supplied-le). At reach x the supply is x at least (reach-supplied), and so it stays (reach-enough); at every shorter length it is less (reach-short).
+-- So reach, with what lies past the longest length for more ticks than that (reach-above, reach-inside), is the inverse of the supply (supply-inverse).
 use mathlib.Core.Path.{_≡_, ap}
 use mathlib.Core.Logic.{_⊎_, inl, inr}
 use Prim.Native.Nat.{ℕ, suc, _+_, _*_, _-_, _/_, _≤_, _<_}
@@ -8,7 +9,7 @@ use native.Mathlib.Nat.{le-refl, eq-or-lt-of-le, div-mul-le-self, lt-div-mul-add
 use native.Mathlib.Omega.{arith}
 use borrow.Author.Tests.{eq-eqb, ne-eqb, lt-ltb, le-ltb}
 use Rattle.ranges.proofs.SumLaws.{le-or-lt}
-use Rattle.curves.specs.Parts.{Turned}
+use Rattle.curves.specs.Parts.{Inverse}
 use Rattle.curves.specs.Supply.{supply, suppliedPast, delayedSupply, reach, reachPast, reachUpTo}
 
 -- k whole periods lie between the first gap and D, and supply no more than they last
@@ -37,7 +38,7 @@ delayed-past budget period delay n h = rw (le-ltb n delay h, delayedSupply)
 pub delayed-none : (budget period n : ℕ) → delayedSupply budget period 0 n ≡ supply budget period n
 delayed-none budget period n = simp sub-zero at (delayed-past budget period 0 n (omega arith))
 
--- ---- turned around
+-- ---- the inverse
 
 pub reach-none : (budget period delay x : ℕ) → x ≡ 0 → reach budget period delay x ≡ 0
 unfolding reach
@@ -143,9 +144,9 @@ module _ (budget period delay : ℕ) (some : 0 < budget) (within : budget ≤ pe
   pub reach-supplied : (x : ℕ) → x ≤ delayedSupply budget period delay (reach budget period delay x)
   reach-supplied x = reach-enough x (reach budget period delay x) (le-refl _)
 
-  -- reach turns the supply around, up to any length
-  pub supply-turned : (most : ℕ) → Turned most (delayedSupply budget period delay) (reachUpTo most (reach budget period delay))
-  supply-turned most = record { enough = λ x D l. more x D l (le-or-lt x most); short = λ x D l. less x D l (le-or-lt x most) }
+  -- of lengths up to any
+  pub supply-inverse : (most : ℕ) → Inverse most (delayedSupply budget period delay) (reachUpTo most (reach budget period delay))
+  supply-inverse most = record { enough = λ x D l. more x D l (le-or-lt x most); short = λ x D l. less x D l (le-or-lt x most) }
     where
       more : (x D : ℕ) → D ≤ most → (x ≤ most) ⊎ (most < x) → reachUpTo most (reach budget period delay) x ≤ D → x ≤ delayedSupply budget period delay D
       more x D l (inl k) h = reach-enough x D (omega (arith, reach-inside most x (reach budget period delay) k))

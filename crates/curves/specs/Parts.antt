@@ -1,5 +1,5 @@
 -- What the functions and laws of the curves ask. maxLength: the longest window. RisingEntries: of cost entries.
--- Rising: of the curves of several callbacks. Turned: of a supply and the least lengths that reach it.
+-- Rising: of the curves of several callbacks. Inverse: of a supply and the least length for each number of ticks.
 use mathlib.Core.List.{List}
 use Prim.Native.Nat.{ℕ, suc, _*_, _≤_, _<_}
 use lib.ListN.{length}
@@ -19,7 +19,7 @@ pub record Rising (n : ℕ) (a e : ℕ → ℕ → ℕ) : Type 0 where
   pub a-up : (i d : ℕ) → i < n → a i d ≤ a i (suc d)
   pub e-up : (i m : ℕ) → i < n → e i m < e i (suc m)
 
--- what a search by jumps asks of a supply s and lengths r, of lengths up to `most`: x is supplied in a length just where it is r x at least
-pub record Turned (most : ℕ) (s r : ℕ → ℕ) : Type 0 where
+-- what a search by jumps asks of a supply s and its inverse r, of lengths up to `most`: in D ticks x are supplied just where D is r x at least
+pub record Inverse (most : ℕ) (s r : ℕ → ℕ) : Type 0 where
   pub enough : (x D : ℕ) → D ≤ most → r x ≤ D → x ≤ s D
   pub short : (x D : ℕ) → D ≤ most → D < r x → s D < x

@@ -21,7 +21,7 @@ use Rattle.table.specs.Values.{callbackAt, horizonOf}
 use Rattle.chains.specs.Chains.{headOf}
 use Rattle.windows.specs.Window.{covered, window, bound}
 use Rattle.windows.proofs.WindowLaws.{finish-within, finish-covers, finish-least, finish-up, finish-same, bound-le}
-use Rattle.windows.proofs.TableLaws.{spaced, sound-rising, sound-turned}
+use Rattle.windows.proofs.TableLaws.{spaced, sound-rising, sound-inverse}
 use Rattle.windows.proofs.PartLaws.{demand-all, demand-own}
 use Rattle.windows.specs.Bounds.{arrivalsOf, costOf, supplyOf, windowOf, boundOf}
 use Rattle.windows.specs.Parts.{demandBut, coveredOf, finishOf, reachOf, Headed}
@@ -49,13 +49,13 @@ module _ (t : Table) (heads : List ℕ) (ready : Headed t heads) where
     pub window-hit : D ≤ h → next ≤ D → rest (coveredOf t) h D ≡ D
     unfolding coveredOf covered
     window-hit l k =
-        jump-hit h whole (supplyOf t) (reachOf t h) (whole-up (t .count) (arrivalsOf t) (costOf t) rises) (sound-turned t (ready .sound) h) D l (subst (λ (r : ℕ). r ≤ D) goal k)
+        jump-hit h whole (supplyOf t) (reachOf t h) (whole-up (t .count) (arrivalsOf t) (costOf t) rises) (sound-inverse t (ready .sound) h) D l (subst (λ (r : ℕ). r ≤ D) goal k)
 
     -- any other leaves it to the jump's end
     pub window-jump : D < next → rest (coveredOf t) h D ≡ rest (coveredOf t) h next
     unfolding coveredOf covered
     window-jump k =
-        jump-miss h whole (supplyOf t) (reachOf t h) (whole-up (t .count) (arrivalsOf t) (costOf t) rises) (sound-turned t (ready .sound) h) D (omega (arith, goal))
+        jump-miss h whole (supplyOf t) (reachOf t h) (whole-up (t .count) (arrivalsOf t) (costOf t) rises) (sound-inverse t (ready .sound) h) D (omega (arith, goal))
         ∙ ap (rest (coveredOf t) h) (sym goal)
 
   module _ (x A : ℕ) (early : A < windowOf t) where
@@ -78,7 +78,7 @@ module _ (t : Table) (heads : List ℕ) (ready : Headed t heads) where
       finish-hit l = go (eq-or-lt-of-le from)
         where
           covers : part D ≤ supplyOf t D
-          covers = sound-turned t (ready .sound) (windowOf t) .enough (part D) D (omega (arith, finish-in)) (omega (arith, aim))
+          covers = sound-inverse t (ready .sound) (windowOf t) .enough (part D) D (omega (arith, finish-in)) (omega (arith, aim))
 
           go : (D ≡ finishOf t x A) ⊎ (D < finishOf t x A) → D ≡ finishOf t x A
           go (inl e) = e
@@ -90,7 +90,7 @@ module _ (t : Table) (heads : List ℕ) (ready : Headed t heads) where
       finish-jump =
           let covers = finish-covers (t .count) (arrivalsOf t) (costOf t) (supplyOf t) (horizonOf t) rises x A early in
           subst (λ (r : ℕ). r ≤ finishOf t x A) (sym aim)
-          (jump-within (windowOf t) part (supplyOf t) (reachOf t (windowOf t)) (part-up (t .count) (arrivalsOf t) (costOf t) rises x A) (sound-turned t (ready .sound) (windowOf t)) D (finishOf t x A) from (finish-in .1) covers)
+          (jump-within (windowOf t) part (supplyOf t) (reachOf t (windowOf t)) (part-up (t .count) (arrivalsOf t) (costOf t) rises x A) (sound-inverse t (ready .sound) (windowOf t)) D (finishOf t x A) from (finish-in .1) covers)
 
 module _ (t : Table) (heads : List ℕ) (ready : Headed t heads) (x : ℕ) where
   -- the search of the next offset goes on where this one ended

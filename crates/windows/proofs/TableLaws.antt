@@ -1,4 +1,4 @@
--- What a table that the reader accepts ensures of its curves: spaced, costed, sound-rising, sound-turned. head-own: whether a slot leads itself.
+-- What a table that the reader accepts ensures of its curves: spaced, costed, sound-rising, sound-inverse. head-own: whether a slot leads itself.
 -- horizon-in: the horizon is a length that curves can be asked for. heads-more: the heads of the slots, as a loop writes them.
 use mathlib.Core.Path.{_≡_, refl, sym, ap, subst, _∙_}
 use mathlib.Core.Logic.{_⊎_, inl, inr}
@@ -12,11 +12,11 @@ use lib.Dec.{eqb}
 use lib.ListN.{length, getD, set}
 use lib.Seq.{getD-set-same, getD-set-other}
 use borrow.Author.Tests.{eq-eqb, ne-eqb}
-use Rattle.curves.specs.Parts.{Rising, Turned}
+use Rattle.curves.specs.Parts.{Rising, Inverse}
 use Rattle.ranges.proofs.EveryLaws.{never-both}
 use Rattle.curves.proofs.ArrivalsLaws.{arrivals-mono}
 use Rattle.curves.proofs.CostLaws.{cost-up}
-use Rattle.curves.proofs.SupplyLaws.{supply-turned}
+use Rattle.curves.proofs.SupplyLaws.{supply-inverse}
 use Rattle.table.specs.declared.Callback.{Callback}
 use Rattle.table.specs.declared.Table.{Table}
 use Rattle.numbers.specs.Numbers.{longest}
@@ -59,10 +59,10 @@ module _ (t : Table) (so : Sound t) where
     e-up = λ i m l. cost-up (entriesOf (callbackAt t i)) (costed i l .listed) (costed i l .rising) m;
   }
 
-  -- its supply is turned around by the lengths that reach it
-  pub sound-turned : (most : ℕ) → Turned most (supplyOf t) (reachOf t most)
+  -- its supply has an inverse
+  pub sound-inverse : (most : ℕ) → Inverse most (supplyOf t) (reachOf t most)
   unfolding supplyOf reachOf
-  sound-turned = supply-turned (t .budget) (t .period) (t .delay) (so .budget-some) (so .budget-le)
+  sound-inverse = supply-inverse (t .budget) (t .period) (t .delay) (so .budget-some) (so .budget-le)
 
   -- a head leads itself, and nobody else does
   pub head-own : (i : ℕ) → i < t .count → isHead t i ≡ eqb (headOf t i) i

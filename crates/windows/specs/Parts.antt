@@ -46,7 +46,7 @@ coveredOf t = covered (t .count) (arrivalsOf t) (costOf t) (supplyOf t)
 unfoldable pub finishOf : Table → ℕ → ℕ → ℕ
 finishOf t = finish (t .count) (arrivalsOf t) (costOf t) (supplyOf t) (horizonOf t)
 
--- the least length whose supply in the table is at least x, of the lengths up to `most`; what lies past them where there is none for x alone
+-- the inverse of the table's supply, of lengths up to `most`
 unfoldable pub reachOf : Table → ℕ → ℕ → ℕ
 reachOf t most = reachUpTo most (reach (t .budget) (t .period) (t .delay))
 

@@ -69,7 +69,7 @@ fn demand_but(t: Table, heads: [u8; 16], x: usize, length: u32) -> u64
     sum
 }
 
-// The least length whose supply covers a demand; the one past `most` where none up to `most` does it for the demand alone.
+// The least length whose supply is at least a demand; for a demand above `most` the length past `most`.
 fn reach(t: Table, most: u32, demand: u64) -> u32
     requires { ⌜ Sound t × (most ≤ longest) ⌝ }
     ensures { λ r. ⌜ r ≡ reachOf t most demand ⌝ }
@@ -84,7 +84,7 @@ fn reach(t: Table, most: u32, demand: u64) -> u32
 }
 
 // W: the least length in 1 to the horizon whose supply covers the demand of all callbacks; 0 where there is none.
-// Demand does not fall: where a length is not covered, none is before the one that supplies its demand.
+// Demand does not fall as the length grows: where one is not covered, none is before that which supplies its demand, and there the search goes on.
 pub fn window(t: Table, heads: [u8; 16], horizon: u32) -> u32
     requires { ⌜ Headed t heads × (horizon ≡ horizonOf t) × (horizon ≤ longest) ⌝ }
     ensures { λ r. ⌜ (r ≡ windowOf t) × (r ≤ longest) ⌝ }

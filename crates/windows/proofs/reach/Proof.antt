@@ -1,4 +1,4 @@
--- `reach` meets its contract: the supply curve turned around, at the numbers of the table.
+-- `reach` meets its contract: the inverse of the supply at the numbers of the table.
 use borrow.Author.Needs.{needs}
 use Rattle.windows.proofs.reach.Statement.{statement}
 use Rattle.windows.proofs.reach.Tie as tie
