@@ -9,8 +9,8 @@ use native.Mathlib.Nat.{le-refl, eq-or-lt-of-le, div-mul-le-self, lt-div-mul-add
 use native.Mathlib.Omega.{arith}
 use borrow.Author.Tests.{eq-eqb, ne-eqb, lt-ltb, le-ltb}
 use Rattle.ranges.proofs.SumLaws.{le-or-lt}
-use Rattle.curves.specs.Parts.{Inverse}
-use Rattle.curves.specs.Supply.{supply, suppliedPast, delayedSupply, reach, reachPast, reachUpTo}
+use Rattle.curves.specs.Supply.{supply, suppliedPast, delayedSupply}
+use Rattle.curves.specs.Parts.{Inverse, reach, reachPast, reachUpTo}
 
 -- k whole periods lie between the first gap and D, and supply no more than they last
 pub periods : (budget period n : ℕ) → budget ≤ period → let k : ℕ = (n - (period - budget)) / period in (k * period ≤ n - (period - budget)) × (k * budget ≤ k * period)

@@ -1,7 +1,9 @@
--- What the functions and laws of the curves ask. maxLength: the longest window. RisingEntries: of cost entries.
--- Rising: of the curves of several callbacks. Inverse: of a supply and the least length for each number of ticks.
+-- What the functions and laws of the curves ask, and what `reach` gives. maxLength: the longest window. RisingEntries: of cost entries.
+-- Rising: of the curves of several callbacks. Inverse: of a supply and the least length for each number of ticks. reach, reachUpTo: those lengths.
 use mathlib.Core.List.{List}
-use Prim.Native.Nat.{ℕ, suc, _*_, _≤_, _<_}
+use mathlib.Core.Bool.{true, false}
+use Prim.Native.Nat.{ℕ, suc, _+_, _*_, _-_, _/_, _≤_, _<_}
+use lib.Dec.{eqb, ltb}
 use lib.ListN.{length}
 use Rattle.numbers.specs.Numbers.{longest}
 use Rattle.curves.specs.Cost.{entry}
@@ -23,3 +25,15 @@ pub record Rising (n : ℕ) (a e : ℕ → ℕ → ℕ) : Type 0 where
 pub record Inverse (most : ℕ) (s r : ℕ → ℕ) : Type 0 where
   pub enough : (x D : ℕ) → D ≤ most → r x ≤ D → x ≤ s D
   pub short : (x D : ℕ) → D ≤ most → D < r x → s D < x
+
+-- the least length whose supply is at least x, for x over 0: behind the delay and two gaps, a period for each budget that lies whole before the last tick of x, and what is left of x
+abbrev pub reachPast : ℕ → ℕ → ℕ → ℕ → ℕ
+reachPast budget period delay x = let k : ℕ = (x - 1) / budget in delay + k * period + 2 * (period - budget) + (x - k * budget)
+
+-- the inverse of the supply, of Q, P and Z: 0 for no ticks
+unfoldable pub reach : ℕ → ℕ → ℕ → ℕ → ℕ
+reach budget period delay x = elim (eqb x 0) [ true ↦ 0 | false ↦ reachPast budget period delay x ]
+
+-- such an r of lengths up to `most`: none of them supplies more than `most` ticks, and for more the length past them stands
+unfoldable pub reachUpTo : ℕ → (ℕ → ℕ) → ℕ → ℕ
+reachUpTo most r x = elim (ltb most x) [ true ↦ suc most | false ↦ r x ]

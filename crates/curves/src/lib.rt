@@ -1,13 +1,12 @@
-// The curves of document 01: arrivals, cost and supply, as functions on numbers.
+// The curves of document 01 as functions on numbers: arrivals, cost, and the inverse of the supply.
 // They assume what the reader has tested of a table, and lengths up to twice the longest horizon.
 ghost use mathlib.Core.Path.{_≡_};
 ghost use Prim.Native.Nat.{ℕ, _<_, _≤_, _*_};
 ghost use lib.ListN.{take};
 ghost use Rattle.numbers.specs.Numbers.{longest};
-ghost use Rattle.curves.specs.Parts.{maxLength};
+ghost use Rattle.curves.specs.Parts.{maxLength, reach as reachOf, reachUpTo};
 ghost use Rattle.curves.specs.Arrivals.{arrivals as arrivalsOf};
 ghost use Rattle.curves.specs.Cost.{cost as costOf};
-ghost use Rattle.curves.specs.Supply.{reach as reachOf, reachUpTo};
 
 // a(length): the activations of a head in any window of that many ticks, at most; 0 for no ticks, whatever the jitter.
 pub fn arrivals(period: u32, jitter: u32, distance: u32, length: u32) -> u32

@@ -9,8 +9,7 @@ use Rattle.ranges.specs.Sum.{sum}
 use Rattle.numbers.specs.Numbers.{entryPlaces, longest}
 use Rattle.curves.specs.Arrivals.{arrivals}
 use Rattle.curves.specs.Cost.{cost}
-use Rattle.curves.specs.Supply.{reach, reachUpTo}
-use Rattle.curves.specs.Parts.{RisingEntries}
+use Rattle.curves.specs.Parts.{RisingEntries, reach, reachUpTo}
 use Rattle.table.specs.declared.Callback.{Callback}
 use Rattle.table.specs.declared.Table.{Table}
 use Rattle.table.specs.Values.{entriesOf, horizonOf}

@@ -6,7 +6,7 @@ use native.Mathlib.Omega.{arith}
 use borrow.Author.Needs.{needs}
 use Rattle.numbers.specs.Numbers.{longest}
 use Rattle.curves.proofs.SupplyLaws.{reach-above, reach-inside, reach-none, reach-some}
-use Rattle.curves.specs.Supply.{reach}
+use Rattle.curves.specs.Parts.{reach}
 use Rattle.curves.proofs.reach.Statement.{statement}
 use Rattle.curves.proofs.reach.Tie as tie
 use Rattle.curves.proofs.reach.Reads as reads
