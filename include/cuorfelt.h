@@ -26,7 +26,7 @@ extern "C" {
  * something is added, the third where neither is so. */
 #define CUORFELT_VERSION_MAJOR 1
 #define CUORFELT_VERSION_MINOR 2
-#define CUORFELT_VERSION_PATCH 1
+#define CUORFELT_VERSION_PATCH 2
 
 /* Sizes. */
 enum {
