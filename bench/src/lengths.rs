@@ -33,8 +33,9 @@ fn taken(table: &Table) -> Option<Taken> {
     })
 }
 
-/// A row: the sheets of which this number lies in a range.
+/// A row: the sheets of which this number lies in a range, named with it.
 fn row(name: &str, sheets: &[Taken], number: fn(&Taken) -> u64, (low, high): (u64, u64)) {
+    let name = name.replace('#', &format!("{low} to {high}"));
     let found: Vec<&Taken> = sheets
         .iter()
         .filter(|taken| (low..=high).contains(&number(taken)))
@@ -46,7 +47,7 @@ fn row(name: &str, sheets: &[Taken], number: fn(&Taken) -> u64, (low, high): (u6
         found.iter().map(|taken| of(taken)).sum::<u64>() as f64 / found.len() as f64
     };
     println!(
-        "| {name} {low} to {high} | {} | {:.0} | {:.1} | {:.0} | {:.0} | {largest} | {:.0} |",
+        "| {name} | {} | {:.0} | {:.1} | {:.0} | {:.0} | {largest} | {:.0} |",
         found.len(),
         mean(|taken| taken.window),
         mean(|taken| taken.callbacks),
@@ -67,13 +68,13 @@ pub fn grown() {
     println!("| sheets with | tables | window | callbacks | activations | lengths | most lengths | every length |");
     println!("|---|---:|---:|---:|---:|---:|---:|---:|");
     for range in [(1, 99), (100, 999), (1_000, 9_999), (10_000, 60_000)] {
-        row("a window of", &sheets, |taken| taken.window, range);
+        row("a window of #", &sheets, |taken| taken.window, range);
     }
     for range in [(1, 1), (2, 4), (5, 8), (9, 16)] {
-        row("callbacks,", &sheets, |taken| taken.callbacks, range);
+        row("# callbacks", &sheets, |taken| taken.callbacks, range);
     }
     for range in [(1, 9), (10, 99), (100, 999), (1_000, 4_080)] {
-        row("activations,", &sheets, |taken| taken.activations, range);
+        row("# activations", &sheets, |taken| taken.activations, range);
     }
     let share = |taken: &Taken| taken.jumps as f64 / most(taken) as f64;
     let largest = sheets.iter().map(share).fold(0.0, f64::max);
