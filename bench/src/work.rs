@@ -1,6 +1,8 @@
 //! What is timed: tables to analyse, and ticks in lent bytes.
 
 use crate::agree::{self, packed, Offer, PLACES};
+use crate::plain::jumps::Jumps;
+use crate::plain::sheet::lengths;
 use sim::generate::histories::{within, Style};
 use sim::generate::tables::{table, Shape};
 use sim::machine::{start, Tick};
@@ -135,8 +137,8 @@ fn analyses(random: &mut Random) -> Vec<Work> {
             drawn(random, 4, Shape::Small, unsettled),
         ),
         Work::sheets("16 callbacks, window 59,984", vec![encode(&longest())]),
-        Work::sheets("16 callbacks, 65,740 lengths", vec![encode(&in_turn())]),
-        Work::sheets("2 callbacks, 60,000 lengths", vec![encode(&one_ahead())]),
+        searched(&in_turn()),
+        searched(&one_ahead()),
     ]
 }
 
@@ -199,6 +201,15 @@ fn longest() -> Table {
         delay: 0,
         callbacks: vec![lone; 16],
     }
+}
+
+/// A table named by the lengths that its sheet takes.
+fn searched(table: &Table) -> Work {
+    let bytes = encode(table);
+    let lengths = lengths::<Jumps>(&bytes);
+    let (thousands, rest) = (lengths / 1_000, lengths % 1_000);
+    let name = format!("{} callbacks, {thousands},{rest:03} lengths", table.count());
+    Work::sheets(&name, vec![bytes])
 }
 
 /// Callbacks that ask for all ticks of the supply but one in each period, their

@@ -1,5 +1,5 @@
 //! The search by jumps: from a length that is not covered to the least whose
-//! supply is its demand, since no length between them has a smaller one.
+//! supply is its demand, since no length between them has a smaller demand.
 
 use super::curves::{arrivals, cost, demand_but, reach};
 use super::sheet::Search;
