@@ -1,9 +1,11 @@
--- Laws of the demand: whose instances are charged (limit-own, limit-other), more instances bring no less work (demand-le), and neither does a longer window (whole-up, part-up).
+-- Laws of the demand: whose instances are charged (limit-own, limit-other), and no fewer as offset and length grow (limit-up). More instances bring no less work (demand-le), so that the demand
+-- of all, and that of an offset, does not fall as the length grows (whole-up, part-up).
 use mathlib.Core.Path.{_≡_, refl, sym, subst}
 use mathlib.Core.Logic.{_≢_}
 use Prim.Native.Nat.{ℕ, suc, _≤_, _<_}
 use native.Mathlib.Nat.{le-refl, le-of-lt}
 use native.Mathlib.Decide.{ℕ-discrete}
+use native.Mathlib.Omega.{arith}
 use borrow.Author.Tests.{eq-eqb, ne-eqb}
 use Rattle.curves.specs.Demand.{demand, limit}
 use Rattle.curves.specs.Parts.{Rising}
@@ -33,10 +35,15 @@ module _ (n : ℕ) (a e : ℕ → ℕ → ℕ) (up : Rising n a e) where
   pub whole-up : (D : ℕ) → demand n e (λ i. a i D) ≤ demand n e (λ i. a i (suc D))
   whole-up D = demand-le (λ i. a i D) (λ i. a i (suc D)) (λ i l. up .a-up i D l)
 
-  -- nor that of an offset
-  pub part-up : (x A D : ℕ) → demand n e (limit a x A D) ≤ demand n e (limit a x A (suc D))
-  part-up x A D = demand-le (limit a x A D) (limit a x A (suc D)) (λ i l. go i l (ℕ-discrete i x))
+  -- as offset and length grow, no fewer instances are charged
+  pub limit-up : (x A B D E i : ℕ) → A ≤ B → D ≤ E → i < n → limit a x A D i ≤ limit a x B E i
+  limit-up x A B D E i h k l = go (ℕ-discrete i x)
     where
-      go : (i : ℕ) → i < n → Dec (i ≡ x) → limit a x A D i ≤ limit a x A (suc D) i
-      go i l (yes p) = subst (λ (y : ℕ). limit a x A D y ≤ limit a x A (suc D) y) (sym p) (rw (limit-own a x A D, limit-own a x A (suc D)) (le-refl _))
-      go i l (no p) = rw (limit-other a x A D i p, limit-other a x A (suc D) i p) (up .a-up i D l)
+      go : Dec (i ≡ x) → limit a x A D i ≤ limit a x B E i
+      go (yes p) = subst (λ (y : ℕ). limit a x A D y ≤ limit a x B E y) (sym p)
+          (rw (limit-own a x A D, limit-own a x B E) (arrivals-upto x (suc A) (suc B) (subst (λ (y : ℕ). y < n) p l) (omega arith)))
+      go (no p) = rw (limit-other a x A D i p, limit-other a x B E i p) (arrivals-upto i D E l k)
+
+  -- nor does that of an offset fall
+  pub part-up : (x A D : ℕ) → demand n e (limit a x A D) ≤ demand n e (limit a x A (suc D))
+  part-up x A D = demand-le (limit a x A D) (limit a x A (suc D)) (λ i l. limit-up x A A D (suc D) i (le-refl A) (omega arith) l)

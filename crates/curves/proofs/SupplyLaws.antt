@@ -84,7 +84,7 @@ module _ (budget period delay : ℕ) (some : 0 < budget) (within : budget ≤ pe
     before-last = (div-mul-le-self (x - 1) budget, lt-div-mul-add some)
 
     fitting : (k * period ≤ n - (period - budget)) × (n - (period - budget) < k * period + period)
-    fitting = (div-mul-le-self (n - (period - budget)) period, lt-div-mul-add (omega arith))
+    fitting = (periods budget period n within .0, lt-div-mul-add (omega arith))
 
     -- sooner than x behind two gaps: as many periods as budgets leave less than the rest of x, fewer do not hold the budgets, and more do not fit
     supply-short : n < j * period + 2 * (period - budget) + (x - j * budget) → supply budget period n < x
@@ -118,18 +118,12 @@ module _ (budget period delay : ℕ) (some : 0 < budget) (within : budget ≤ pe
         go (inr m) = omega (arith, past, before-last, mul-le-mul-right {m = suc j} {n = k} budget m)
 
   pub reach-short : (x D : ℕ) → D < reach budget period delay x → delayedSupply budget period delay D < x
-  reach-short x D h = go (le-or-lt delay D)
+  reach-short x D h = go (le-or-lt x 0) (le-or-lt delay D)
     where
-      positive : 0 < x
-      positive = some-of (le-or-lt x 0)
-        where
-          some-of : (x ≤ 0) ⊎ (0 < x) → 0 < x
-          some-of (inl l) = absurd (omega (arith, reach-none budget period delay x (omega arith)))
-          some-of (inr l) = l
-
-      go : (delay ≤ D) ⊎ (D < delay) → delayedSupply budget period delay D < x
-      go (inl l) = omega (arith, delayed-past budget period delay D l, supply-short x (D - delay) positive (omega (arith, reach-some budget period delay x positive)))
-      go (inr l) = omega (arith, delayed-early budget period delay D l, positive)
+      go : (x ≤ 0) ⊎ (0 < x) → (delay ≤ D) ⊎ (D < delay) → delayedSupply budget period delay D < x
+      go (inl l) k = absurd (omega (arith, reach-none budget period delay x (omega arith)))
+      go (inr l) (inl k) = omega (arith, delayed-past budget period delay D k, supply-short x (D - delay) l (omega (arith, reach-some budget period delay x l)))
+      go (inr l) (inr k) = omega (arith, delayed-early budget period delay D k)
 
   pub reach-enough : (x D : ℕ) → reach budget period delay x ≤ D → x ≤ delayedSupply budget period delay D
   reach-enough x D h = go (le-or-lt x 0)
@@ -144,7 +138,7 @@ module _ (budget period delay : ℕ) (some : 0 < budget) (within : budget ≤ pe
   pub reach-supplied : (x : ℕ) → x ≤ delayedSupply budget period delay (reach budget period delay x)
   reach-supplied x = reach-enough x (reach budget period delay x) (le-refl _)
 
-  -- of lengths up to any
+  -- and reach, up to any longest length, is the inverse of the supply
   pub supply-inverse : (most : ℕ) → Inverse most (delayedSupply budget period delay) (reachUpTo most (reach budget period delay))
   supply-inverse most = record { enough = λ x D l. more x D l (le-or-lt x most); short = λ x D l. less x D l (le-or-lt x most) }
     where

@@ -1,6 +1,6 @@
 -- Laws of the analyser's two searches, as its loops go: both by the law of the jump.
 -- The window: window-start, window-hit, window-jump, window-end (of `rest`, what is left of the search at a length).
--- F of slot x at offset A, from a length up to F(A) on: finish-in, finish-hit, finish-jump, finish-next. The bound: bound-skip, bound-is, bound-in.
+-- F of slot x at offset A, from a length up to F(A) on: finish-in, finish-hit, finish-jump, finish-next. The bound: bound-start, bound-skip, bound-is, bound-in.
 use mathlib.Core.Path.{_≡_, refl, sym, ap, subst, _∙_}
 use mathlib.Core.Logic.{_⊎_, inl, inr}
 use mathlib.Core.List.{List}
@@ -42,6 +42,7 @@ module _ (t : Table) (heads : List ℕ) (ready : Headed t heads) where
     abbrev whole : ℕ → ℕ
     whole D = demand (t .count) (costOf t) (λ i. arrivalsOf t i D)
 
+    -- where the jump ends, by the definition's demand
     goal : next ≡ reachOf t h (whole D)
     goal = reached ∙ ap (reachOf t h) (all ∙ demand-all t (t .count) D (le-refl (t .count)))
 
@@ -69,6 +70,7 @@ module _ (t : Table) (heads : List ℕ) (ready : Headed t heads) where
       abbrev part : ℕ → ℕ
       part D = demand (t .count) (costOf t) (limit (arrivalsOf t) x A D)
 
+      -- the same
       aim : next ≡ reachOf t (windowOf t) (part D)
       aim = reached ∙ ap (reachOf t (windowOf t)) (omega (arith, charged, rest-of, demand-own t x D A below, ap (λ (k : ℕ). costOf t x (arrivalsOf t x k)) (add-one A)))
 

@@ -15,17 +15,8 @@ use Rattle.curves.specs.Parts.{Rising}
 use Rattle.ranges.specs.Least.{least}
 use Rattle.ranges.proofs.SumLaws.{le-or-lt}
 use Rattle.ranges.proofs.LeastLaws.{First, least-found, least-by, largest-le, largest-upper}
-use Rattle.curves.proofs.DemandLaws.{limit-own, limit-other, arrivals-upto, demand-le}
+use Rattle.curves.proofs.DemandLaws.{limit-own, limit-other, limit-up, arrivals-upto, demand-le}
 use Rattle.windows.specs.Window.{covered, coveredFor, window, finish, bound}
-
--- the instances charged at one offset are no more than those charged at a later one
-limit-later : (n : ℕ) (a e : ℕ → ℕ → ℕ) → Rising n a e → (x A B D i : ℕ) → A ≤ B → i < n → limit a x A D i ≤ limit a x B D i
-limit-later n a e up x A B D i h l = go (ℕ-discrete i x)
-  where
-    go : Dec (i ≡ x) → limit a x A D i ≤ limit a x B D i
-    go (yes p) = subst (λ (y : ℕ). limit a x A D y ≤ limit a x B D y) (sym p)
-        (rw (limit-own a x A D, limit-own a x B D) (arrivals-upto n a e up x (suc A) (suc B) (subst (λ (y : ℕ). y < n) p l) (omega arith)))
-    go (no p) = rw (limit-other a x A D i p, limit-other a x B D i p) (le-refl _)
 
 -- at an offset below the length, no more than the window's own demand charges
 limit-under : (n : ℕ) (a e : ℕ → ℕ → ℕ) → Rising n a e → (x A D i : ℕ) → A < D → i < n → limit a x A D i ≤ a i D
@@ -119,7 +110,7 @@ module _ (n : ℕ) (a e : ℕ → ℕ → ℕ) (s : ℕ → ℕ) (H : ℕ) where
           arith,
           finish-least A (omega arith) (finish n a e s H x B) (finish-within B l .0) k,
           finish-covers B l,
-          demand-le n a e up (limit a x A (finish n a e s H x B)) (limit a x B (finish n a e s H x B)) (λ i m. limit-later n a e up x A B (finish n a e s H x B) i h m),
+          demand-le n a e up (limit a x A (finish n a e s H x B)) (limit a x B (finish n a e s H x B)) (λ i m. limit-up n a e up x A B (finish n a e s H x B) (finish n a e s H x B) i h (le-refl _) m),
         ))
 
     -- a bound is at most the window
