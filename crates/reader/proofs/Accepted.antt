@@ -1,5 +1,5 @@
 -- What an accepted reading says of the bytes and of the table. Assumes nothing.
--- records-length, records-in, records-out: the places. read-refused, reading-is: a refused reading, and the refusal that a reading carries.
+-- read-refused, reading-is: a refused reading, and the refusal that a reading carries.
 -- ReadPassed, read-passed: what bytes with readFault number 0 have passed. read-spare: each record's spare bytes.
 -- read-accepted, read-sound, read-table: their table has no fault, is sound, and is what is read. read-record, read-blank: its places.
 use mathlib.Core.Path.{_≡_, refl, sym, ap, _∙_}
@@ -7,50 +7,26 @@ use mathlib.Core.Logic.{_⊎_, inl, inr, _≢_}
 use mathlib.Core.Bool.{false, not}
 use mathlib.Core.List.{List}
 use Prim.Native.Nat.{ℕ, zero, suc, _≤_, _<_}
-use native.Mathlib.Nat.{eq-or-lt-of-le, le-of-suc-le-suc}
 use native.Mathlib.Decide.{ℕ-discrete}
 use native.Mathlib.Omega.{arith}
 use lib.Dec.{eqb}
-use lib.ListN.{length, getD, set, length-set, length-replicate, getD-replicate}
-use lib.Seq.{getD-set-same, getD-set-other}
+use lib.ListN.{length, getD}
 use borrow.Author.Tests.{not-false, eqb-true, le-ltb, eq-eqb}
 use Rattle.ranges.proofs.SumLaws.{le-or-lt}
 use Rattle.numbers.specs.Numbers.{places, headerLength, wrongLength}
 use Rattle.masks.proofs.Gather.{gather-in}
 use Rattle.lent.specs.Bytes.{numbers, fieldsAt}
 use Rattle.table.specs.declared.Refusal.{Refusal}
-use Rattle.table.specs.Values.{accepted, blank, vacant, callbackAt}
+use Rattle.table.specs.Values.{accepted, blank, callbackAt}
 use Rattle.table.proofs.RefusalLaws.{first-passed, both-passed}
+use Rattle.table.proofs.PlacedLaws.{placed-in, placed-out}
 use Rattle.rules.specs.Rules.{headFault, faultOf}
 use Rattle.rules.specs.Parts.{Sound}
 use Rattle.rules.proofs.Passed.{test-zero, HeadPassed, head-passed, BodyPassed, body-passed, body-accepted, fault-accepted}
 use Rattle.rules.proofs.Sound.{sound}
 use Rattle.reader.specs.declared.Reading.{Reading}
-use Rattle.reader.specs.Format.{headerClear, recordAt, spareAt, recordStart, recordsTo, tableAt, sparesAt, wholeFault, readFault, refusedReading, readOf}
+use Rattle.reader.specs.Format.{headerClear, recordAt, spareAt, recordStart, tableAt, sparesAt, wholeFault, readFault, refusedReading, readOf}
 use Rattle.reader.proofs.FormatLaws.{read-short, reading-refused, reading-whole}
-
--- ---- the places
-
-module _ (b : List ℕ) where
-  pub records-length : (n : ℕ) → length (recordsTo b n) ≡ places
-  unfolding recordsTo
-  records-length zero = length-replicate places blank
-  records-length (suc n) = length-set (recordsTo b n) n (recordAt b (recordStart n)) ∙ records-length n
-
-  pub records-in : (n i : ℕ) → n ≤ places → i < n → getD (recordsTo b n) i vacant ≡ recordAt b (recordStart i)
-  unfolding recordsTo
-  records-in zero i h l = absurd (omega arith)
-  records-in (suc n) i h l = go (eq-or-lt-of-le (le-of-suc-le-suc l)) (λ k. records-in n i (omega arith) k)
-    where
-      go : (i ≡ n) ⊎ (i < n) → (i < n → getD (recordsTo b n) i vacant ≡ recordAt b (recordStart i))
-          → getD (set (recordsTo b n) n (recordAt b (recordStart n))) i vacant ≡ recordAt b (recordStart i)
-      go (inl e) w = rw e (getD-set-same (recordsTo b n) n (recordAt b (recordStart n)) vacant (omega (arith, records-length n)))
-      go (inr k) w = getD-set-other (recordsTo b n) n i (recordAt b (recordStart n)) vacant (λ q. omega arith) ∙ w k
-
-  pub records-out : (n i : ℕ) → n ≤ i → i < places → getD (recordsTo b n) i vacant ≡ blank
-  unfolding recordsTo
-  records-out zero i h l = getD-replicate places i blank vacant l
-  records-out (suc n) i h l = getD-set-other (recordsTo b n) n i (recordAt b (recordStart n)) vacant (λ q. omega arith) ∙ records-out n i (omega arith) l
 
 -- ---- the reading
 
@@ -119,8 +95,8 @@ module _ (b : List ℕ) where
     -- the place of each slot below count, and those beyond it
     pub read-record : (i : ℕ) → i < getD b 1 0 → callbackAt (tableAt b) i ≡ recordAt b (recordStart i)
     unfolding tableAt
-    read-record i l = records-in b (getD b 1 0) i (read-passed .head .few) l
+    read-record i l = placed-in (λ j. recordAt b (recordStart j)) (getD b 1 0) i (read-passed .head .few) l
 
     pub read-blank : (i : ℕ) → getD b 1 0 ≤ i → i < places → callbackAt (tableAt b) i ≡ blank
     unfolding tableAt
-    read-blank i l h = records-out b (getD b 1 0) i l h
+    read-blank i l h = placed-out (λ j. recordAt b (recordStart j)) (getD b 1 0) i l h

@@ -6,7 +6,6 @@ use mathlib.Core.Logic.{_≢_}
 use mathlib.Core.Bool.{Bool, true, false, not, and-false}
 use mathlib.Core.List.{List, [], _∷_}
 use Prim.Native.Nat.{ℕ, _+_, _-_, _≤_, _<_}
-use native.Mathlib.Numerals.{add-one}
 use native.Mathlib.Omega.{arith}
 use lib.Dec.{eqb}
 use lib.ListN.{length, getD, set}
@@ -18,6 +17,7 @@ use Rattle.table.specs.declared.Refusal.{Refusal}
 use Rattle.table.specs.declared.Table.{Table}
 use Rattle.table.specs.Values.{refuse, tableOf, withCallbacks, headless}
 use Rattle.table.proofs.RefusalLaws.{first-refused, first-passed}
+use Rattle.table.proofs.PlacedLaws.{placed-more}
 use Rattle.rules.specs.Rules.{headFault, bodyFault}
 use Rattle.reader.specs.declared.Reading.{Reading}
 use Rattle.reader.specs.Format.{headerClear, recordAt, spareAt, recordStart, recordsTo, tableAt, sparesAt, wholeFault, readFault, refusedReading, readOf}
@@ -51,8 +51,7 @@ module _ (b : List ℕ) (k : ℕ) (x : Bool) (first : x ≡ zeros b (k + 3) (k +
 
 module _ (b : List ℕ) (i : ℕ) (t : Table) (so : t ≡ headless (recordsTo b i)) where
   pub records-more : (c : Callback) → c ≡ recordAt b (recordStart i) → withCallbacks t (set (t .callbacks) i c) ≡ headless (recordsTo b (i + 1))
-  unfolding recordsTo
-  records-more c f = ap₂ (λ (u : Table) (d : Callback). withCallbacks u (set (u .callbacks) i d)) so f ∙ ap (λ (k : ℕ). headless (recordsTo b k)) (sym (add-one i))
+  records-more c f = ap₂ (λ (u : Table) (d : Callback). withCallbacks u (set (u .callbacks) i d)) so f ∙ ap headless (placed-more (λ j. recordAt b (recordStart j)) i)
 
   pub table-whole : (q p h z : ℕ) → i ≡ getD b 1 0 → q ≡ get 2 b 2 → p ≡ get 2 b 4 → h ≡ get 2 b 6 → z ≡ get 2 b 8
       → tableOf (getD b 0 0 ∷ getD b 1 0 ∷ []) (q ∷ p ∷ h ∷ z ∷ []) (t .callbacks) ≡ tableAt b

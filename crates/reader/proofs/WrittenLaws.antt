@@ -24,13 +24,14 @@ use Rattle.table.specs.declared.Callback.{Callback}
 use Rattle.table.specs.declared.Refusal.{Refusal}
 use Rattle.table.specs.declared.Table.{Table}
 use Rattle.table.specs.Values.{accepted, callbackOf, tableOf, blank, vacant, callbackAt}
+use Rattle.table.proofs.PlacedLaws.{placed-length, placed-in, placed-out}
 use Rattle.rules.specs.Rules.{faultOf}
 use Rattle.rules.specs.Parts.{Sound}
 use Rattle.rules.proofs.Passed.{head-accepted, body-accepted, fault-passed}
 use Rattle.rules.proofs.Sound.{sound, ticks-le, entries-le}
 use Rattle.reader.specs.Format.{headerFields, recordFields, fieldOf, headerClear, recordAt, spareAt, recordStart, recordsTo, tableAt, sparesAt, wholeFault, readFault}
 use Rattle.reader.specs.Written.{headerNumbers, recordNumbers, recordBytes, recordsBytes, written}
-use Rattle.reader.proofs.Accepted.{records-length, records-in, records-out, read-passed, read-spare, read-accepted, read-record, read-blank}
+use Rattle.reader.proofs.Accepted.{read-passed, read-spare, read-accepted, read-record, read-blank}
 
 -- a table without faults whose lists have their lengths, and blank places beyond n
 pub record Writable (t : Table) : Type 0 where
@@ -180,12 +181,15 @@ module _ (t : Table) (w : Writable t) where
     -- the sixteen places
     places-back : recordsTo b (t .count) ≡ t .callbacks
     places-back =
-        ext-getD vacant (recordsTo b (t .count)) (t .callbacks) (records-length b (t .count) ∙ sym (w .places-length))
-        (λ i l. slot i (omega (arith, records-length b (t .count))) (le-or-lt (t .count) i))
+        ext-getD vacant (recordsTo b (t .count)) (t .callbacks) (placed-length slots (t .count) ∙ sym (w .places-length))
+        (λ i l. slot i (omega (arith, placed-length slots (t .count))) (le-or-lt (t .count) i))
       where
+        slots : ℕ → Callback
+        slots i = recordAt b (recordStart i)
+
         slot : (i : ℕ) → i < places → (t .count ≤ i) ⊎ (i < t .count) → getD (recordsTo b (t .count)) i vacant ≡ callbackAt t i
-        slot i l (inl h) = records-out b (t .count) i h l ∙ sym (w .beyond i h l)
-        slot i l (inr h) = records-in b (t .count) i (so .few) h ∙ slot-back i h
+        slot i l (inl h) = placed-out slots (t .count) i h l ∙ sym (w .beyond i h l)
+        slot i l (inr h) = placed-in slots (t .count) i (so .few) h ∙ slot-back i h
 
     -- what was written is read back, whatever follows it
     pub tableAt-written : tableAt b ≡ t
@@ -215,7 +219,7 @@ module _ (b : List ℕ) (ok : (readFault b) .number ≡ 0) where
   writable-read =
       record {
         faultless = ap (λ (r : Refusal). r .number) (read-accepted b ok);
-        places-length = records-length b (getD b 1 0);
+        places-length = placed-length (λ i. recordAt b (recordStart i)) (getD b 1 0);
         entries-length = λ i l. ap (λ (c : Callback). length (c .entries)) (read-record b ok i l);
         beyond = read-blank b ok;
       }

@@ -3,16 +3,16 @@
 -- headerClear: the header's spare bytes are zero. spareAt, sparesAt: records with one that is not. readFault, readOf: the reader.
 use mathlib.Core.Bool.{Bool, true, false, cond, not, _&&_}
 use mathlib.Core.List.{List, [], _∷_}
-use Prim.Native.Nat.{ℕ, zero, suc, _+_, _*_}
+use Prim.Native.Nat.{ℕ, _+_, _*_}
 use lib.Dec.{eqb, ltb}
-use lib.ListN.{length, getD, set, replicate}
-use Rattle.numbers.specs.Numbers.{places, headerLength, recordLength, shortHeader, wrongLength}
+use lib.ListN.{length, getD}
+use Rattle.numbers.specs.Numbers.{headerLength, recordLength, shortHeader, wrongLength}
 use Rattle.masks.specs.Mask.{gather}
 use Rattle.lent.specs.Bytes.{zeros, Field, field, fieldsAt}
 use Rattle.table.specs.declared.Callback.{Callback}
 use Rattle.table.specs.declared.Refusal.{Refusal}
 use Rattle.table.specs.declared.Table.{Table}
-use Rattle.table.specs.Values.{refuse, orElse, callbackOf, tableOf, blank, blankTable}
+use Rattle.table.specs.Values.{refuse, orElse, callbackOf, tableOf, placed, blankTable}
 use Rattle.rules.specs.Rules.{headFault, bodyFault}
 use Rattle.reader.specs.declared.Reading.{Reading}
 
@@ -44,10 +44,9 @@ headerClear b = zeros b 10 6
 abbrev pub recordStart : ℕ → ℕ
 recordStart i = headerLength + recordLength * i
 
--- the first i records, in sixteen places
-unfoldable pub recordsTo : List ℕ → ℕ → List Callback
-recordsTo b zero = replicate places blank
-recordsTo b (suc i) = set (recordsTo b i) i (recordAt b (recordStart i))
+-- the first n records, in sixteen places
+abbrev pub recordsTo : List ℕ → ℕ → List Callback
+recordsTo b n = placed (λ i. recordAt b (recordStart i)) n
 
 -- the values that the bytes hold: the header, then the records
 unfoldable pub tableAt : List ℕ → Table

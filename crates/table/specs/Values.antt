@@ -2,7 +2,7 @@
 use mathlib.Core.Bool.{true, false}
 use mathlib.Core.List.{List, [], _∷_}
 use Prim.Native.Nat.{ℕ, zero, suc}
-use lib.ListN.{getD, take, replicate}
+use lib.ListN.{getD, set, take, replicate}
 use lib.Dec.{eqb}
 use Rattle.numbers.specs.Numbers.{places, entryPlaces, defaultHorizon}
 use Rattle.table.specs.declared.Callback.{Callback}
@@ -70,6 +70,11 @@ withCallbacks t cs = tableOf (tableBytes t) (tableTicks t) cs
 -- a place beyond n
 abbrev pub blank : Callback
 blank = callbackOf [] [] (replicate entryPlaces 0)
+
+-- the callbacks that f gives to the first n slots, in sixteen places; the others are blank
+unfoldable pub placed : (ℕ → Callback) → ℕ → List Callback
+placed f zero = replicate places blank
+placed f (suc n) = set (placed f n) n (f n)
 
 -- a table with nothing in its header: the one that stands beside a refusal has blank places
 abbrev pub headless : List Callback → Table

@@ -5,7 +5,7 @@ use native.Mathlib.Nat.{le-antisymm}
 use native.Mathlib.Omega.{arith}
 use denote.Ref.{now}
 use lib.ListN.{getD}
-use Rattle.table.specs.Values.{headless}
+use Rattle.table.specs.Values.{headless, placed}
 use Rattle.reader.specs.Format.{recordsTo}
 use Rattle.reader.proofs.FormatLaws.{records-more, table-whole}
 use borrow.Author.Needs.{needs}
@@ -19,7 +19,7 @@ abbrev μ-loop : tie.MeasureT-loop
 μ-loop b n t₀ i₀ t i = n - i
 
 loop-holds : tie.Need-loop-holds Inv-loop μ-loop
-unfolding recordsTo
+unfolding placed
 loop-holds c = (omega arith, c .blank .ensures)
 
 loop-again : tie.Need-loop-again Inv-loop μ-loop
