@@ -79,18 +79,6 @@ fn unpack_with(state: &[u8], table: Table) -> Machine
     }
 }
 
-// Writes sixteen numbers of two bytes.
-fn put_u16s(b: &mut [u8], at: usize, counts: [u16; 16])
-    requires { ⌜ at + 2 * places ≤ length (now b) ⌝ }
-    ensures { λ _. ⌜ (now (b .exit) ≡ over (now (b .entry)) at (run 2 counts)) × (length counts ≡ places) ⌝ }
-{
-    let mut i: usize = 0;
-    while i < 16 {
-        lent::put_u16(b, at + 2 * i, counts[i]);
-        i += 1;
-    }
-}
-
 // Writes sixteen numbers of four bytes.
 fn put_u32s(b: &mut [u8], at: usize, counts: [u32; 16])
     requires { ⌜ at + 4 * places ≤ length (now b) ⌝ }
@@ -110,7 +98,7 @@ pub fn pack_tail(state: &mut [u8], m: Machine)
 {
     let waiting = m.waiting;
     let finished = m.finished;
-    put_u16s(state, WAITING_START, waiting);
+    lent::put_u16s(state, WAITING_START, &waiting);
     put_u32s(state, FINISHED_START, finished);
     lent::put_u32(state, CLOCK_START, m.clock);
     lent::put_u16(state, CACHE_START, m.cache);

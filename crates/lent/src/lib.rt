@@ -4,9 +4,9 @@
 
 ghost use mathlib.Core.Path.{_≡_};
 ghost use mathlib.Core.List.{[], _∷_};
-ghost use Prim.Native.Nat.{ℕ, _<_, _≤_, _+_, _-_};
+ghost use Prim.Native.Nat.{ℕ, _<_, _≤_, _+_, _-_, _*_};
 ghost use lib.ListN.{length, replicate};
-ghost use Rattle.lent.specs.Bytes.{get, le, zeros};
+ghost use Rattle.lent.specs.Bytes.{get, le, run, zeros};
 ghost use Rattle.lent.specs.Over.{over};
 
 // A byte as a number of two bytes.
@@ -78,6 +78,18 @@ pub fn copy(b: &mut [u8], at: usize, from: &[u8])
     let mut i: usize = 0;
     while i < from.len() {
         b[at + i] = from[i];
+        i += 1;
+    }
+}
+
+// Writes the numbers of `from` to the bytes from `at` on, two bytes each.
+pub fn put_u16s(b: &mut [u8], at: usize, from: &[u16])
+    requires { ⌜ at + 2 * length (now from) ≤ length (now b) ⌝ }
+    ensures { λ _. ⌜ now (b .exit) ≡ over (now (b .entry)) at (run 2 (now (from .entry))) ⌝ }
+{
+    let mut i: usize = 0;
+    while i < from.len() {
+        put_u16(b, at + 2 * i, from[i]);
         i += 1;
     }
 }

@@ -1,6 +1,10 @@
 -- Seven writes, one behind the other, are the fields' bytes.
+use mathlib.Core.Path.{_≡_}
 use Prim.Native.Nat.{_<_}
+use lib.ListN.{length}
 use denote.Ref.{now}
+use Rattle.numbers.specs.Numbers.{places}
+use native.Mathlib.Omega.{arith}
 use Rattle.layout.proofs.LayoutLaws.{pack-parts}
 use borrow.Author.Needs.{needs}
 use Rattle.layout.proofs.pack_tail.Statement.{statement}
@@ -8,6 +12,12 @@ use Rattle.layout.proofs.pack_tail.Tie as tie
 
 byte : (s : tie.Start) → s .args .m .running < 256
 byte s = search needs
+
+waiting-length : (s : tie.Start) → length (s .args .m .waiting) ≡ places
+waiting-length s = search needs
+
+put-u16s-requires : tie.Need-put-u16s-requires
+put-u16s-requires c κs = let s = c .before .before .before .before .before in omega (arith, waiting-length s, s .pre)
 
 returns : tie.Need-returns
 returns c =
@@ -18,11 +28,11 @@ returns c =
     let c3 = c4 .before .before .before .before in
     let c2 = c3 .before .before .before .before in
     let c1 = c2 .before .before .before .before in
-    let s = c1 .before .before .before .before .before in
-    let w = c1 .put-u16s .ensures .1 in
+    let s = c1 .before .before .before .before .before .before in
+    let w = waiting-length s in
     let f = c2 .put-u32s .ensures .1 in (
       pack-parts (now (s .args .state)) (s .args .m) (s .pre) w f (byte s)
-          (c1 .put-u16s .ensures .0)
+          (c1 .put-u16s .ensures)
           (c2 .put-u32s .ensures .0)
           (c3 .put-u32 .ensures)
           (c4 .put-u16 .ensures)
@@ -37,7 +47,8 @@ pub pack-tail-spec : {M : Type 1} → statement M
 pack-tail-spec =
     tie.close
     (tie.spec
-    (λ c κs. search needs)
+    (λ c. search needs)
+    put-u16s-requires
     (λ c κs. search needs)
     (λ c κs. search needs)
     (λ c κs. search needs)

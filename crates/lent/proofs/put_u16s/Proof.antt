@@ -7,31 +7,30 @@ use lib.Seq.{take-all}
 use denote.Ref.{now}
 use native.Mathlib.Omega.{arith}
 use borrow.Author.Needs.{needs}
 use Rattle.lent.specs.Bytes.{le, run}
 use Rattle.lent.specs.Over.{over}
 use Rattle.lent.proofs.Fields.{run-start, run-step}
-use Rattle.layout.proofs.put_u16s.Statement.{statement}
-use Rattle.layout.proofs.put_u16s.Tie as tie
+use Rattle.lent.proofs.put_u16s.Statement.{statement}
+use Rattle.lent.proofs.put_u16s.Tie as tie
 
 abbrev Inv-loop : tie.InvT-loop
-Inv-loop b₀ at counts i₀ b i = (i ≤ 16) × (length b ≡ length b₀) × (b ≡ over b₀ at (run 2 (take i counts)))
+Inv-loop b₀ at from i₀ b i = (i ≤ length from) × (length b ≡ length b₀) × (b ≡ over b₀ at (run 2 (take i from)))
 
 abbrev μ-loop : tie.MeasureT-loop
-μ-loop b₀ at counts i₀ b i = 16 - i
+μ-loop b₀ at from i₀ b i = length from - i
 
 loop-holds : tie.Need-loop-holds Inv-loop μ-loop
-loop-holds c = (omega arith, refl, run-start 2 (now (c .before .args .b)) (c .before .args .t3) (c .before .args .at))
+loop-holds c = let a = c .before .before .args in (omega arith, refl, run-start 2 (now (a .b)) (now (a .from)) (a .at))
 
 loop-again : tie.Need-loop-again Inv-loop μ-loop
 loop-again c =
-    let a = c .before .before .before .before .before .before .before .args in
-    let l = c .before .before .before .before .before .loop in
-    let sixteen : length (a .t3) ≡ 16 = search needs in (
+    let l = c .before .before .before .before .before .before .loop in
+    let a = c .before .before .before .before .before .before .before .before .before .args in (
       omega arith,
       c .before .before .put-u16 .kept .0 ∙ l .inv .1,
       c .before .before .put-u16 .ensures
-          ∙ ap (λ (b : List ℕ). over b (a .at + 2 * l .i) (le 2 (getD (a .t3) (l .i) 0))) (l .inv .2)
-          ∙ run-step 2 (now (a .b)) (a .t3) (a .at) (l .i) (omega arith) (omega arith),
+          ∙ ap (λ (b : List ℕ). over b (a .at + 2 * l .i) (le 2 (getD (now (a .from)) (l .i) 0))) (l .inv .2)
+          ∙ run-step 2 (now (a .b)) (now (a .from)) (a .at) (l .i) (omega arith) (omega arith),
     )
 
 same-length : tie.Need-same-length Inv-loop μ-loop
@@ -39,10 +38,9 @@ same-length c = c .before .loop .inv .1
 
 returns : tie.Need-returns Inv-loop μ-loop
 returns c =
-    let a = c .before .before .before .args in
+    let a = c .before .before .before .before .args in
     let l = c .before .loop in
-    let sixteen : length (a .t3) ≡ 16 = search needs in
-    (l .inv .2 ∙ ap (λ (xs : List ℕ). over (now (a .b)) (a .at) (run 2 xs)) (take-all (l .i) (a .t3) (omega arith)), sixteen)
+    l .inv .2 ∙ ap (λ (xs : List ℕ). over (now (a .b)) (a .at) (run 2 xs)) (take-all (l .i) (now (a .from)) (omega arith))
 
 pub put-u16s-spec : {M : Type 1} → statement M
 put-u16s-spec =
