@@ -107,6 +107,10 @@ tooMany = 16
 abbrev pub shortRow : ℕ
 shortRow = 17
 
+-- refusals: writer
+abbrev pub shortBuffer : ℕ
+shortBuffer = 23
+
 -- refusals: tick
 abbrev pub ticksSpent : ℕ
 ticksSpent = 18

@@ -74,6 +74,9 @@ pub const TOO_MANY: u8 = 16;
 
 pub const SHORT_ROW: u8 = 17;
 
+// Refusals: writer.
+pub const SHORT_BUFFER: u8 = 23;
+
 // Refusals: tick.
 pub const TICKS_SPENT: u8 = 18;
 

@@ -1,0 +1,2 @@
+-- WriterLaws: what the writes of a header, of a record and of a table add up to.
+pub mod WriterLaws
