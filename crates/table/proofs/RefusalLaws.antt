@@ -1,6 +1,6 @@
 -- Refusals one after the other. Assumes nothing.
--- first-refused, first-passed, both-passed: the first of two. lowest-refused, lowest-passed, lowest-zero: one that names the callback found.
-use mathlib.Core.Path.{_≡_, refl, sym, ap, _∙_}
+-- first-refused, first-passed, both-passed, first-alike: the first of two. lowest-refused, lowest-passed, lowest-zero: one that names the callback found.
+use mathlib.Core.Path.{_≡_, refl, sym, ap, ap₂, _∙_}
 use mathlib.Core.Logic.{_≢_}
 use mathlib.Core.Bool.{Bool, true, false}
 use Prim.Native.Nat.{ℕ, zero, suc}
@@ -21,6 +21,14 @@ both-passed r s ok = go (ℕ-discrete (r .number) 0)
     go : Dec (r .number ≡ 0) → (r .number ≡ 0) × (s .number ≡ 0)
     go (yes e) = (e, ap (λ (x : Refusal). x .number) (sym (first-passed r s e)) ∙ ok)
     go (no h) = absurd (h (ap (λ (x : Refusal). x .number) (sym (first-refused r s h)) ∙ ok))
+
+-- the second is looked at where the first does not refuse
+pub first-alike : (r s x y : Refusal) → r ≡ x → (r .number ≡ 0 → s ≡ y) → orElse r s ≡ orElse x y
+first-alike r s x y e f = go (ℕ-discrete (r .number) 0)
+  where
+    go : Dec (r .number ≡ 0) → orElse r s ≡ orElse x y
+    go (yes z) = ap₂ orElse e (f z)
+    go (no h) = first-refused r s h ∙ e ∙ sym (first-refused x y (λ z. h (ap (λ (q : Refusal). q .number) e ∙ z)))
 
 pub lowest-refused : (n x : ℕ) (r : Refusal) → x ≢ 0 → lowestRefused n x r ≡ refuse n x
 lowest-refused n zero r h = absurd (h refl)
