@@ -73,8 +73,8 @@ pub record Alike (t u : Table) : Type 0 where
   pub edition : t .edition ≡ u .edition
   pub count : t .count ≡ u .count
   pub ticks : tableTicks t ≡ tableTicks u
-  pub judged : (i : ℕ) → i < t .count → recordFault (t .count) (callbackAt t i) (has 0 i) ≡ recordFault (t .count) (callbackAt u i) (has 0 i)
-  pub same : (i : ℕ) → i < t .count → RecordPassed (t .count) (callbackAt t i) (has 0 i) → callbackAt t i ≡ callbackAt u i
+  pub judged : (i : ℕ) (spare : Bool) → i < t .count → recordFault (t .count) (callbackAt t i) spare ≡ recordFault (t .count) (callbackAt u i) spare
+  pub same : (i : ℕ) (spare : Bool) → i < t .count → RecordPassed (t .count) (callbackAt t i) spare → callbackAt t i ≡ callbackAt u i
 
 module _ (t u : Table) (a : Alike t u) where
   records-alike : (k i : ℕ) → i + k ≤ t .count → recordsFrom 0 t k i ≡ recordsFrom 0 u k i
@@ -82,14 +82,14 @@ module _ (t u : Table) (a : Alike t u) where
   records-alike zero i h = refl
   records-alike (suc k) i h =
       ap₂ (λ (x : ℕ) (r : Refusal). elim x as (λ _. Refusal) [ zero ↦ r | suc y ↦ refuse (suc y) (suc i) ])
-      (a .judged i (omega arith) ∙ ap (λ (n : ℕ). recordFault n (callbackAt u i) (has 0 i)) (a .count))
+      (a .judged i (has 0 i) (omega arith) ∙ ap (λ (n : ℕ). recordFault n (callbackAt u i) (has 0 i)) (a .count))
       (records-alike k (suc i) (omega arith))
 
   -- records and links
   rest-alike : orElse (recordsFrom 0 t (t .count) 0) (linksFault t) ≡ orElse (recordsFrom 0 u (u .count) 0) (linksFault u)
   rest-alike =
       first-alike _ _ _ _ (records-alike (t .count) 0 (omega arith) ∙ ap (λ (n : ℕ). recordsFrom 0 u n 0) (a .count))
-      (λ e. let p = records-passed 0 t e in links-alike t u (a .count) (λ i l. a .same i l (p i l)) (λ i l. p i l .next))
+      (λ e. let p = records-passed 0 t e in links-alike t u (a .count) (λ i l. a .same i (has 0 i) l (p i l)) (λ i l. p i l .next))
 
   pub body-alike : bodyFault false 0 t ≡ bodyFault false 0 u
   unfolding bodyFault

@@ -1,3 +1,5 @@
--- A table's bytes from its values. Writer: what writing gives, and what the buffer holds then. Parts: what inner functions write.
+-- A table's bytes from its values. Writer: what writing gives, and what the buffer holds then. Described: a table by plain numbers.
+-- Parts: what inner functions give.
 pub mod Writer
+pub mod Described
 pub mod Parts

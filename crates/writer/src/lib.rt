@@ -1,5 +1,5 @@
 // A table's bytes from its values: the refusals 2 to 14 and 22 that the reader gives, then 23, or the table in a lent buffer.
-// described: values that come as plain numbers.
+// described: a table given as plain numbers, as hosts written in C do.
 
 use numbers::HEADER_LENGTH;
 use numbers::RECORD_LENGTH;
@@ -17,6 +17,8 @@ ghost use Rattle.reader.specs.Format.{headerFields, recordStart};
 ghost use Rattle.reader.specs.Written.{headerNumbers, recordBytes, written};
 ghost use Rattle.writer.specs.Writer.{refusedWriting, writeOf, bufferAfter};
 ghost use Rattle.writer.specs.Parts.{recordFront};
+
+pub mod described;
 
 // What writing gives: the length of the table in bytes, or 0 and the refusal.
 #[repr(C)]
