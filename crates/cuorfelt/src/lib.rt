@@ -1,4 +1,4 @@
-// The edge for hosts written in C: reader, analyser and machine on numbers and lent slices, the machine's state packed in lent bytes.
+// The edge for hosts written in C: reader, writer, analyser and machine on numbers and lent slices, the machine's state packed in lent bytes.
 // include/cuorfelt.h declares what is exported here.
 
 use answers::Outcome;
@@ -7,10 +7,14 @@ use layout::offsets::STATE_LENGTH;
 use numbers::FAULTY_STATE;
 use sheet::Sheet;
 use table::Refusal;
+use writer::Written;
 ghost use mathlib.Core.Path.{_≡_};
+ghost use mathlib.Core.List.{[], _∷_};
 ghost use Prim.Native.Nat.{ℕ};
 ghost use lib.ListN.{length};
 ghost use Rattle.reader.specs.Format.{readFault};
+ghost use Rattle.writer.specs.Writer.{writeOf, bufferAfter};
+ghost use Rattle.writer.specs.Described.{described};
 ghost use Rattle.sheet.specs.Sheet.{sheetOf, rowOf};
 ghost use Rattle.layout.specs.Layout.{stateLength};
 ghost use Rattle.cuorfelt.specs.Edge.{startFault, stateStarted, noState, tickReply, stateTicked};
@@ -30,6 +34,33 @@ pub extern "C" fn cuorfelt_read(table: &[u8]) -> Refusal
 {
     let reading = reader::read(table);
     reading.refusal
+}
+
+// Writes a table into the buffer from its header's numbers and from the records' numbers, fourteen each: its length, or the refusal, which
+// leaves the buffer as it was. What stands past the table is kept.
+#[no_mangle]
+pub extern "C" fn cuorfelt_write(
+    edition: u16,
+    count: u16,
+    budget: u16,
+    period: u16,
+    horizon: u16,
+    delay: u16,
+    records: &[u16],
+    buffer: &mut [u8],
+) -> Written
+    ensures { λ r. ⌜ (r ≡ writeOf (described (edition ∷ count ∷ []) (budget ∷ period ∷ horizon ∷ delay ∷ []) (now (records .entry))) (length (now (buffer .entry)))) × (now (buffer .exit) ≡ bufferAfter (described (edition ∷ count ∷ []) (budget ∷ period ∷ horizon ∷ delay ∷ []) (now (records .entry))) (now (buffer .entry))) ⌝ }
+{
+    writer::described::write(
+        edition,
+        count,
+        budget,
+        period,
+        horizon,
+        delay,
+        records,
+        buffer,
+    )
 }
 
 // The window of a table, and its bounds 1 to n in the first n places of the row; the other places are kept, and all of them

@@ -21,8 +21,8 @@ use Rattle.lent.specs.Over.{over}
 use Rattle.table.specs.declared.Callback.{Callback}
 use Rattle.table.specs.declared.Refusal.{Refusal}
 use Rattle.table.specs.declared.Table.{Table}
-use Rattle.table.specs.Values.{refuse, accepted, orElse, callbackTicks, callbackOf, tableOf, headless, placed, withCallbacks, callbackAt}
-use Rattle.table.proofs.RefusalLaws.{both-passed, first-alike}
+use Rattle.table.specs.Values.{refuse, accepted, callbackTicks, callbackOf, tableOf, headless, placed, withCallbacks, callbackAt}
+use Rattle.table.proofs.RefusalLaws.{first-alike}
 use Rattle.table.proofs.PlacedLaws.{placed-in, placed-more}
 use Rattle.rules.specs.Rules.{headFault, entriesFault, unusedFault, recordFault, faultOf}
 use Rattle.rules.proofs.RulesLaws.{cost-many}
@@ -34,7 +34,7 @@ use Rattle.writer.specs.declared.Written.{Written}
 use Rattle.writer.specs.Writer.{writeFault, refusedWriting, writeOf, bufferAfter}
 use Rattle.writer.specs.Described.{recordSize, describedRecord, described}
 use Rattle.writer.specs.Parts.{narrow, narrowRecord, narrowTable}
-use Rattle.writer.proofs.WriterLaws.{writing-refused, writing-done}
+use Rattle.writer.proofs.WriterLaws.{write-passed, writing-refused, writing-done}
 
 -- ---- two tables that are alike
 
@@ -51,10 +51,6 @@ module _ (t u : Table) (a : Alike t u) (ok : (faultOf t) .number ≡ 0) where
       ap₂ _++_
       (ap₂ (λ (bytes ticks : List ℕ). fieldBytes headerFields (headerNumbers (tableOf bytes ticks []))) (ap₂ (λ (e n : ℕ). e ∷ n ∷ []) (a .edition) (a .count)) (a .ticks))
       (records-alike (t .count) (omega arith) ∙ ap (recordsBytes u) (a .count))
-
-first : (t : Table) (room : ℕ) → writeFault t room ≡ orElse (faultOf t) (cond (ltb room (recordStart (t .count))) (refuse Numbers.shortBuffer 0) accepted)
-unfolding writeFault
-first t room = refl
 
 module _ (t u : Table) (head : headFault (t .edition) (t .count) ≡ headFault (u .edition) (u .count)) (alike : HeadPassed (t .edition) (t .count) → Alike t u) where
   fault-same : (room : ℕ) → writeFault t room ≡ writeFault u room
@@ -74,7 +70,7 @@ module _ (t u : Table) (head : headFault (t .edition) (t .count) ≡ headFault (
       go (yes e) =
           let x = writing-done t b _ refl e in
           let y = writing-done u b _ (sym (fault-same (length b))) e in
-          let ok = both-passed (faultOf t) _ (subst (λ (r : Refusal). r .number ≡ 0) (first t (length b)) e) .0 in
+          let ok = write-passed t (length b) e .0 in
           let like = alike (fault-passed t ok .0) in
           (x .0 ∙ ap (λ (n : ℕ). record { length = recordStart n; number = 0; index = 0 }) (like .count) ∙ sym (y .0), x .1 ∙ ap (over b 0) (written-alike t u like ok) ∙ sym (y .1))
 
@@ -199,13 +195,13 @@ module _ (bytes ticks ns : List ℕ) where
         count = sym (narrow-same (t .count) (omega (arith, p .few)));
         ticks = refl;
         judged = λ i spare l.
-        ap (λ (c : Callback). recordFault (t .count) c spare) (wide i (omega (arith, p .few)))
-        ∙ record-judged (t .count) (slot i) spare (omega (arith, p .few))
-        ∙ ap (λ (c : Callback). recordFault (t .count) c spare) (sym (slim i (omega (arith, p .few))));
+            ap (λ (c : Callback). recordFault (t .count) c spare) (wide i (omega (arith, p .few)))
+            ∙ record-judged (t .count) (slot i) spare (omega (arith, p .few))
+            ∙ ap (λ (c : Callback). recordFault (t .count) c spare) (sym (slim i (omega (arith, p .few))));
         same = λ i spare l q.
-        wide i (omega (arith, p .few))
-        ∙ record-same (t .count) (slot i) spare (omega (arith, p .few)) (subst (λ (c : Callback). RecordPassed (t .count) c spare) (wide i (omega (arith, p .few))) q)
-        ∙ sym (slim i (omega (arith, p .few)));
+            wide i (omega (arith, p .few))
+            ∙ record-same (t .count) (slot i) spare (omega (arith, p .few)) (subst (λ (c : Callback). RecordPassed (t .count) c spare) (wide i (omega (arith, p .few))) q)
+            ∙ sym (slim i (omega (arith, p .few)));
       }
 
   pub described-narrow : (b : List ℕ) → (writeOf t (length b) ≡ writeOf u (length b)) × (bufferAfter t b ≡ bufferAfter u b)

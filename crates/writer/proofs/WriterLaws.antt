@@ -1,7 +1,7 @@
 -- The writes of a table, what they add up to, and the writer as a whole. Assumes nothing.
 -- header-parts, front-parts, record-parts: the writes of put_header, put_front and put_record.
 -- records-length, records-more: one record more. table-whole: the header, and all of them.
--- write-refused, write-short, write-fits: the refusal, test by test. writing-refused, writing-done: what is handed back, and the buffer.
+-- write-refused, write-short, write-fits, write-passed: the refusal, test by test. writing-refused, writing-done: what is handed back, and the buffer.
 use mathlib.Core.Path.{_≡_, refl, sym, ap, _∙_}
 use mathlib.Core.Logic.{_≢_}
 use mathlib.Core.Bool.{Bool, true, false, cond}
@@ -12,7 +12,7 @@ use native.Mathlib.Numerals.{add-one}
 use native.Mathlib.Omega.{arith}
 use lib.Dec.{eqb, ltb}
 use lib.ListN.{length, replicate, length-append}
-use borrow.Author.Tests.{eq-eqb, ne-eqb, lt-ltb, le-ltb}
+use borrow.Author.Tests.{eq-eqb, ne-eqb, lt-ltb, le-ltb, ltb-false}
 use Rattle.numbers.specs.Numbers.{entryPlaces, headerLength, recordLength, shortBuffer}
 use Rattle.lent.specs.Bytes.{Field, field, le, run, fieldBytes}
 use Rattle.lent.specs.Over.{over}
@@ -23,8 +23,9 @@ use Rattle.table.specs.declared.Callback.{Callback}
 use Rattle.table.specs.declared.Refusal.{Refusal}
 use Rattle.table.specs.declared.Table.{Table}
 use Rattle.table.specs.Values.{refuse, accepted, callbackAt}
-use Rattle.table.proofs.RefusalLaws.{first-refused, first-passed}
+use Rattle.table.proofs.RefusalLaws.{first-refused, first-passed, both-passed}
 use Rattle.rules.specs.Rules.{faultOf}
+use Rattle.rules.proofs.Passed.{test-zero}
 use Rattle.reader.specs.Format.{headerFields, recordFields, recordStart}
 use Rattle.reader.specs.Written.{headerNumbers, recordNumbers, recordBytes, recordsBytes, written}
 use Rattle.writer.specs.declared.Written.{Written}
@@ -162,6 +163,13 @@ module _ (t : Table) (room : ℕ) where
 
       pub write-fits : recordStart (t .count) ≤ room → writeFault t room ≡ accepted
       write-fits h = fitting ∙ rw (le-ltb room (recordStart (t .count)) h)
+
+-- what is not refused has no fault, and room
+pub write-passed : (t : Table) (room : ℕ) → (writeFault t room) .number ≡ 0 → ((faultOf t) .number ≡ 0) × (recordStart (t .count) ≤ room)
+unfolding writeFault
+write-passed t room e =
+    let p = both-passed (faultOf t) _ e in
+    (p .0, ltb-false room (recordStart (t .count)) (test-zero (ltb room (recordStart (t .count))) shortBuffer 0 accepted (λ z. omega arith) (p .1) .0))
 
 module _ (t : Table) (b : List ℕ) (r : Refusal) (so : writeFault t (length b) ≡ r) where
   abbrev whole : Written

@@ -9,7 +9,7 @@ use Rattle.numbers.specs.Numbers.{shortBuffer}
 use Rattle.lent.specs.Over.{over}
 use Rattle.table.specs.declared.Refusal.{Refusal}
 use Rattle.table.specs.declared.Table.{Table}
-use Rattle.table.specs.Values.{refuse, accepted, orElse}
+use Rattle.table.specs.Values.{refuse, accepted, orElse, withCallbacks, placed, callbackAt}
 use Rattle.rules.specs.Rules.{faultOf}
 use Rattle.reader.specs.Format.{recordStart}
 use Rattle.reader.specs.Written.{written}
@@ -34,3 +34,7 @@ writeOf t room =
 -- the buffer then: the table's bytes and behind them what was there, or as it was
 unfoldable pub bufferAfter : Table → List ℕ → List ℕ
 bufferAfter t b = elim (eqb ((writeFault t (length b)) .number) 0) [ true ↦ over b 0 (written t) | false ↦ b ]
+
+-- the values that are written, as the reader gives them back: the header's numbers and the first n records, blank places beyond them
+abbrev pub firstRecords : Table → Table
+firstRecords t = withCallbacks t (placed (callbackAt t) (t .count))

@@ -76,7 +76,15 @@ fn record_of(numbers: &[u16], at: usize) -> Callback
 }
 
 // The described table, with what is too wide for its byte made narrow.
-fn table_of(edition: u16, count: u16, budget: u16, period: u16, horizon: u16, delay: u16, records: &[u16]) -> Table
+fn table_of(
+    edition: u16,
+    count: u16,
+    budget: u16,
+    period: u16,
+    horizon: u16,
+    delay: u16,
+    records: &[u16],
+) -> Table
     ensures { λ r. ⌜ r ≡ narrowTable (edition ∷ count ∷ []) (budget ∷ period ∷ horizon ∷ delay ∷ []) (now (records .entry)) ⌝ }
 {
     let mut t = table::blank();
@@ -96,7 +104,16 @@ fn table_of(edition: u16, count: u16, budget: u16, period: u16, horizon: u16, de
 }
 
 // Writes the described table into the lent buffer, as `write` does.
-pub fn write(edition: u16, count: u16, budget: u16, period: u16, horizon: u16, delay: u16, records: &[u16], buffer: &mut [u8]) -> Written
+pub fn write(
+    edition: u16,
+    count: u16,
+    budget: u16,
+    period: u16,
+    horizon: u16,
+    delay: u16,
+    records: &[u16],
+    buffer: &mut [u8],
+) -> Written
     ensures { λ r. ⌜ (r ≡ writeOf (described (edition ∷ count ∷ []) (budget ∷ period ∷ horizon ∷ delay ∷ []) (now (records .entry))) (length (now (buffer .entry)))) × (now (buffer .exit) ≡ bufferAfter (described (edition ∷ count ∷ []) (budget ∷ period ∷ horizon ∷ delay ∷ []) (now (records .entry))) (now (buffer .entry))) ⌝ }
 {
     let t = table_of(edition, count, budget, period, horizon, delay, records);
