@@ -2,13 +2,14 @@
 
 use crate::streams::input;
 use sim::check::{check, judged, report};
-use sim::frames::{cut_readings, cut_replies, framed, packed_history, readings, replies};
+use sim::frames::{cut_readings, cut_replies, framed, packed_history, readings, replies, writings};
 use sim::generate::damage::damaged;
 use sim::generate::edges::{base, edges, late};
 use sim::generate::histories::{covering, outside, span, starved, within, Style};
 use sim::generate::states::{changes, sound, spoil};
 use sim::generate::tables::{any_shape, table, Shape};
 use sim::generate::worst::worst;
+use sim::generate::write_edges::write_edges;
 use sim::history::play;
 use sim::machine::{start, Tick};
 use sim::picture::svg_part;
@@ -88,6 +89,7 @@ pub fn run(words: &[&str]) -> Result<Ending, Failure> {
         ["bytes"] => Ok(Ending::new(hex_row(&text_input()?)?, true)),
         ["readings"] => Ok(read_frames(&input()?)),
         ["histories"] => Ok(played_histories(&input()?)),
+        ["writings"] => Ok(written_frames(&input()?)),
         ["generate", ..] => Ok(Ending::new(generated(words)?, true)),
         ["check", seed, count, rest @ ..] => checked(seed, count, rest),
         [] => Err(Failure::Words("no command".to_string())),
@@ -217,18 +219,29 @@ fn read_frames(bytes: &[u8]) -> Ending {
     Ending::new(text, in_order).and(cut_readings(bytes))
 }
 
+fn written_frames(bytes: &[u8]) -> Ending {
+    let text = writings(bytes);
+    let in_order = text.lines().all(|line| line.split(' ').nth(1) == Some("0"));
+    Ending::new(text, in_order).and(cut_readings(bytes))
+}
+
 fn played_histories(bytes: &[u8]) -> Ending {
     Ending::of_lines(replies(bytes)).and(cut_replies(bytes))
 }
 
 fn generated(words: &[&str]) -> Result<Vec<u8>, Failure> {
     match words {
-        ["generate", "readings"] => Ok(edges().iter().flat_map(|bytes| framed(bytes)).collect()),
+        ["generate", "readings"] => Ok(all_framed(&edges())),
         ["generate", "histories"] => Ok([covered(1), covered(2), delayed()].concat()),
+        ["generate", "writings"] => Ok(all_framed(&write_edges())),
         ["generate", "tables", seed, count, rest @ ..] => Ok(tables(seed, count, rest)?.into()),
         ["generate", "history", seed, rest @ ..] => Ok(history(seed, rest)?.into()),
         _ => Err(wrong(words)),
     }
+}
+
+fn all_framed(contents: &[Vec<u8>]) -> Vec<u8> {
+    contents.iter().flat_map(|bytes| framed(bytes)).collect()
 }
 
 /// The history of this edition for `sim histories`.

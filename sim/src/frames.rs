@@ -1,9 +1,10 @@
-//! Tables and histories in binary: the input of the programs `readings` and
-//! `histories`.
+//! Tables, histories and values for the writer in binary: the input of the
+//! programs `readings`, `histories` and `writings`.
 
 use crate::machine::{start, Tick};
 use crate::table::read;
 use crate::text::{refusal_text, reply_text};
+use crate::write::{write, Values};
 
 /// Mask, supplied, cost.
 const TICK_BYTES: usize = 7;
@@ -39,11 +40,69 @@ pub fn readings(input: &[u8]) -> String {
     frames(input).map(line).collect()
 }
 
-/// The frame of `readings` that is cut short, if one is.
+/// The frame of `readings` or `writings` that is cut short, if one is.
 pub fn cut_readings(input: &[u8]) -> Option<String> {
     let lengths: Vec<usize> = frames(input).map(|bytes| 2 + bytes.len()).collect();
     let whole: usize = lengths.iter().sum();
     (whole < input.len()).then(|| format!("frame {}: cut short", lengths.len() + 1))
+}
+
+/// Every byte of a buffer before it is lent to the writer.
+const FILLING: u8 = 170;
+
+/// What stands in a frame of `writings`: the buffer's length, the header's numbers, then the records'
+/// numbers, two bytes each.
+pub fn packed_writing(room: u16, values: &Values) -> Vec<u8> {
+    let header = [
+        room,
+        values.edition,
+        values.count,
+        values.budget,
+        values.period,
+        values.horizon,
+        values.delay,
+    ];
+    let numbers = header.iter().chain(&values.records);
+    numbers.flat_map(|number| number.to_le_bytes()).collect()
+}
+
+/// The buffer's length and the values in such a frame. A number that is not there reads as 0, and an
+/// odd last byte is none.
+fn unpacked_writing(bytes: &[u8]) -> (usize, Values) {
+    let pairs = bytes.chunks_exact(2);
+    let numbers: Vec<u16> = pairs
+        .map(|pair| u16::from_le_bytes([pair[0], pair[1]]))
+        .collect();
+    let number = |place: usize| numbers.get(place).copied().unwrap_or(0);
+    let values = Values {
+        edition: number(1),
+        count: number(2),
+        budget: number(3),
+        period: number(4),
+        horizon: number(5),
+        delay: number(6),
+        records: numbers.get(7..).unwrap_or_default().to_vec(),
+    };
+    (number(0).into(), values)
+}
+
+/// `LENGTH NUMBER INDEX` for each frame, number and index 0 where the table is written, the length 0
+/// where it is not; then the whole buffer where the writer changed a byte of it.
+pub fn writings(input: &[u8]) -> String {
+    frames(input).map(written).collect()
+}
+
+fn written(bytes: &[u8]) -> String {
+    let (room, values) = unpacked_writing(bytes);
+    let mut buffer = vec![FILLING; room];
+    let mut line = match write(&values, &mut buffer) {
+        Ok(length) => format!("{length} 0 0"),
+        Err(refusal) => format!("0 {} {}", refusal.number, refusal.index),
+    };
+    if buffer.iter().any(|&byte| byte != FILLING) {
+        line.extend(buffer.iter().map(|byte| format!(" {byte}")));
+    }
+    line + "\n"
 }
 
 /// A history: a frame with the table, the number of ticks in four bytes, then the ticks.

@@ -1,8 +1,10 @@
-//! Tables, damaged tables, states and histories, most of them from seeds.
+//! Tables, damaged tables, values for the writer, states and histories, most of them from seeds.
 
 pub mod damage;
 pub mod edges;
 pub mod histories;
 pub mod states;
 pub mod tables;
+pub mod values;
 pub mod worst;
+pub mod write_edges;

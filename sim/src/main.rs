@@ -18,10 +18,12 @@ const USAGE: &str = "usage:
   sim bytes                                  < hex
   sim readings                               < frames
   sim histories                              < a frame, then ticks of 7 bytes
+  sim writings                               < frames
   sim generate tables SEED COUNT [small|long|extreme|damaged]
   sim generate history SEED [within|outside|faulty|worst] [TICKS] [TABLE]
   sim generate readings
   sim generate histories
+  sim generate writings
   sim check SEED COUNT [TICKS]
   sim help
 ends with 0 where all is within, accepted or drawn; 1 where something is

@@ -125,7 +125,7 @@ fn word(bytes: &[u8], at: usize) -> u64 {
 }
 
 /// Refuses with the number and index if the condition holds.
-fn refuse_if(condition: bool, number: u8, index: usize) -> Result<(), Refusal> {
+pub(crate) fn refuse_if(condition: bool, number: u8, index: usize) -> Result<(), Refusal> {
     if condition {
         Err(refusal(number, index))
     } else {
@@ -200,7 +200,7 @@ fn read_record(record: &[u8], index: usize, count: usize) -> Result<Callback, Re
 }
 
 /// The kind with this number; none for a number that is not 1 to 4 (refusal 8).
-fn kind_of(byte: u8) -> Option<Kind> {
+pub(crate) fn kind_of(byte: u8) -> Option<Kind> {
     match byte {
         1 => Some(Kind::Timer),
         2 => Some(Kind::Subscription),
@@ -211,13 +211,13 @@ fn kind_of(byte: u8) -> Option<Kind> {
 }
 
 /// 'Curves', cost: whether the used entries are strictly increasing and in range, 1 to 60,000.
-fn entries_by_the_rules(entries: &[u64]) -> bool {
+pub(crate) fn entries_by_the_rules(entries: &[u64]) -> bool {
     entries.iter().all(|e| (1..=LARGEST).contains(e)) && entries.windows(2).all(|p| p[0] < p[1])
 }
 
 /// Refusals 11, 12 and 13, each over all callbacks before the next one: the lowest callback in more
 /// than one next field, the lowest timer in any, the lowest callback on a loop.
-fn check_links(table: &Table) -> Result<(), Refusal> {
+pub(crate) fn check_links(table: &Table) -> Result<(), Refusal> {
     for index in 1..=table.count() {
         refuse_if(table.names_of(index) >= 2, 11, index)?;
     }
@@ -233,7 +233,7 @@ fn check_links(table: &Table) -> Result<(), Refusal> {
 
 /// Refusal 14, with the lowest callback at fault: a head needs T in 1 to 60,000, J up to 60,000 and
 /// d in 1 to T; a follower has no arrivals of its own, and needs 0 in all three.
-fn check_arrivals(table: &Table) -> Result<(), Refusal> {
+pub(crate) fn check_arrivals(table: &Table) -> Result<(), Refusal> {
     for index in 1..=table.count() {
         let c = table.callback(index);
         let wrong = if table.is_head(index) {

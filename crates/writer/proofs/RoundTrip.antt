@@ -107,6 +107,7 @@ module _ (b c : List ℕ) (bytes : (i : ℕ) → getD b i 0 < 256) (ok : (readFa
   pub writes-back : (writeOf ((readOf b) .table) (length c) ≡ record { length = length b; number = 0; index = 0 }) × (bufferAfter ((readOf b) .table) c ≡ over c 0 b)
   writes-back =
       let table = read-table b ok in
-      let w = writing-done (tableAt b) c accepted (write-fits (tableAt b) (length c) _ (sym (read-accepted b ok)) refl (fits (length c) room)) refl in
-      (ap (λ (t : Table). writeOf t (length c)) table ∙ w .0 ∙ ap (λ (n : ℕ). record { length = n; number = 0; index = 0 }) (sym size),
-      ap (λ (t : Table). bufferAfter t c) table ∙ w .1 ∙ ap (over c 0) (written-tableAt b ok bytes))
+      let w = writing-done (tableAt b) c accepted (write-fits (tableAt b) (length c) _ (sym (read-accepted b ok)) refl (fits (length c) room)) refl in (
+        ap (λ (t : Table). writeOf t (length c)) table ∙ w .0 ∙ ap (λ (n : ℕ). record { length = n; number = 0; index = 0 }) (sym size),
+        ap (λ (t : Table). bufferAfter t c) table ∙ w .1 ∙ ap (over c 0) (written-tableAt b ok bytes),
+      )

@@ -158,7 +158,7 @@ fn entries(bytes: &[u8], record: usize, tables: &mut Vec<Vec<u8>>) {
 }
 
 /// Callbacks of one kind, each with this next.
-fn linked(kind: Kind, nexts: &[usize]) -> Vec<u8> {
+pub(super) fn linked(kind: Kind, nexts: &[usize]) -> Vec<u8> {
     let mut callbacks = vec![lone(kind, &[1]); nexts.len()];
     for (callback, &next) in callbacks.iter_mut().zip(nexts) {
         callback.next = next;
