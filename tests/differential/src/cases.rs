@@ -7,18 +7,21 @@ use sim::generate::damage::{damaged, refused_with, NUMBERS};
 use sim::generate::histories::{outside, within, Style};
 use sim::generate::states::{sound, spoil};
 use sim::generate::tables::{any_shape, edition, table, Shape};
+use sim::generate::values::{rooms, values};
 use sim::history::conclusions;
 use sim::machine::{bit, Tick};
 use sim::random::Random;
 use sim::sheet::delayed_supply;
-use sim::table::{encode, Callback, Kind, Table, LARGEST, MOST_CALLBACKS};
+use sim::table::{encode, read, Callback, Kind, Table, LARGEST, MOST_CALLBACKS};
 use sim::text::hex;
 use sim::trackers::longest_starvation;
+use sim::write::values_at;
 use std::sync::atomic::Ordering;
 
 const TABLES: u64 = 100;
 const DISTURBED: u64 = 300;
 const SCATTERED: u64 = 300;
+const WRITINGS: u64 = 100;
 
 /// In the range, at its ends and outside it, some in their low sixteen bits only.
 const COSTS: [u32; 12] = [
@@ -40,7 +43,7 @@ const LENGTHS: [usize; 12] = [0, 1, 2, 16, 527, 528, 632, 639, 641, 656, 1_280, 
 
 type Case = fn(&mut Comparison, &mut Random) -> Outcome;
 
-const CASES: [(&str, Case); 8] = [
+const CASES: [(&str, Case); 9] = [
     ("tables", tables),
     ("longest window", longest_window),
     ("history within the curves", history_within),
@@ -49,6 +52,7 @@ const CASES: [(&str, Case); 8] = [
     ("damaged state", damaged_state),
     ("offers", offers),
     ("lengths", lengths),
+    ("writings", writings),
 ];
 
 /// Everything that a seed draws.
@@ -80,6 +84,22 @@ fn noisy_row(random: &mut Random, places: u64) -> Vec<u16> {
     (0..places).map(|_| random.bits() as u16).collect()
 }
 
+/// The values of a table's bytes, whatever they are, written into buffers that
+/// are just long enough, longer, and too short by a byte; an accepted table is
+/// written back byte by byte.
+fn write_back(comparison: &mut Comparison, bytes: &[u8]) -> Outcome {
+    let values = values_at(bytes);
+    let accepted = read(bytes).is_ok();
+    for room in [bytes.len(), bytes.len() + 3, bytes.len().saturating_sub(1)] {
+        let got = comparison.write(&values, &vec![room as u8 ^ 0x5A; room])?;
+        let fits = accepted && room >= bytes.len();
+        if fits && (got.number != 0 || comparison.buffer()[..bytes.len()] != *bytes) {
+            return Err(format!("not written back: {got:?}"));
+        }
+    }
+    Ok(())
+}
+
 /// Reader, analyser (rows of fewer than sixteen places, and of more) and
 /// start on one table; window and row where the analyser takes it.
 fn one_table(
@@ -94,6 +114,7 @@ fn one_table(
         let places = *random.pick(&[16, 16, 17, 24, 100]);
         let sheet = comparison.analyse(bytes, &noisy_row(random, places))?;
         comparison.start(bytes, &noise(random, LENGTH))?;
+        write_back(comparison, bytes)?;
         comparison.totals.tables += 1;
         comparison.totals.accepted += u64::from(sheet.0 != 0);
         comparison.totals.delayed += u64::from(sheet.0 != 0 && bytes[8..10] != [0, 0]);
@@ -411,6 +432,18 @@ fn lengths(comparison: &mut Comparison, random: &mut Random) -> Outcome {
         comparison.read(&other)?;
         comparison.start(&other, &noise(random, LENGTH))?;
         comparison.totals.lengths += 2;
+    }
+    Ok(())
+}
+
+/// Drawn values, some too wide for their bytes, too few or too many, in buffers
+/// of every length around the table's.
+fn writings(comparison: &mut Comparison, random: &mut Random) -> Outcome {
+    for _ in 0..WRITINGS {
+        let values = values(random);
+        for room in rooms(&values) {
+            comparison.write(&values, &noise(random, room))?;
+        }
     }
     Ok(())
 }

@@ -4,12 +4,14 @@
 use crate::fence::Fence;
 use crate::layout::{pack, unpack, CACHE, LENGTH};
 use library::{
-    cuorfelt_analyse, cuorfelt_read, cuorfelt_start, cuorfelt_tick, Refusal, Reply, Sheet,
+    cuorfelt_analyse, cuorfelt_read, cuorfelt_start, cuorfelt_tick, cuorfelt_write, Refusal, Reply,
+    Sheet, Written,
 };
 use sim::machine::{start, Answer, Tick};
 use sim::sheet::analyse;
 use sim::table::read;
 use sim::text::hex;
+use sim::write::{values_at, write, Values, NUMBERS_PER_RECORD};
 
 /// A difference, in words.
 pub type Outcome<T = ()> = Result<T, String>;
@@ -21,6 +23,7 @@ pub enum Function {
     Analyse,
     Start,
     Tick,
+    Write,
 }
 
 #[derive(Default)]
@@ -37,8 +40,11 @@ pub struct Totals {
     pub second: u64,
     pub damaged: u64,
     pub lengths: u64,
+    /// Calls of the writer, and the tables that it wrote.
+    pub writings: u64,
+    pub written: u64,
     /// By function, then by number: how often it was refused so.
-    pub refused: [[u64; 30]; 4],
+    pub refused: [[u64; 30]; 5],
 }
 
 /// What is offered to a tick, in the library's widths.
@@ -54,6 +60,8 @@ pub struct Comparison {
     table: Fence,
     row: Fence,
     state: Fence,
+    records: Fence,
+    buffer: Fence,
 }
 
 fn same<T: PartialEq + std::fmt::Debug>(what: &str, library: T, simulator: T) -> Outcome {
@@ -93,6 +101,22 @@ fn refusal(simulator: Option<sim::table::Refusal>) -> Refusal {
             index: 0,
         },
         Some(sim::table::Refusal { number, index }) => Refusal { number, index },
+    }
+}
+
+/// Numbers of two bytes as they lie in memory.
+fn flat(numbers: &[u16]) -> Vec<u8> {
+    numbers.iter().flat_map(|n| n.to_le_bytes()).collect()
+}
+
+/// The values with just the records of callbacks 1 to n, a number that is not
+/// there being 0.
+fn to_count(values: &Values) -> Values {
+    let mut records = values.records.clone();
+    records.resize(NUMBERS_PER_RECORD * usize::from(values.count), 0);
+    Values {
+        records,
+        ..values.clone()
     }
 }
 
@@ -139,6 +163,8 @@ impl Comparison {
             table: Fence::new(),
             row: Fence::new(),
             state: Fence::new(),
+            records: Fence::new(),
+            buffer: Fence::new(),
         }
     }
 
@@ -161,6 +187,75 @@ impl Comparison {
         self.table_kept(bytes)
     }
 
+    /// The writer in a buffer that holds `lent` before. What is written is read
+    /// by the library, and holds the values.
+    pub fn write(&mut self, values: &Values, lent: &[u8]) -> Outcome<Written> {
+        let mut wanted = lent.to_vec();
+        let result = match write(values, &mut wanted) {
+            Ok(length) => Written {
+                length: length as u32,
+                number: 0,
+                index: 0,
+            },
+            Err(sim::table::Refusal { number, index }) => Written {
+                length: 0,
+                number,
+                index,
+            },
+        };
+        self.records.lend(&flat(&values.records), 2);
+        self.buffer.lend(lent, 1);
+        // SAFETY: the fences lend this many numbers, at an even address, and bytes.
+        let got = unsafe {
+            cuorfelt_write(
+                values.edition,
+                values.count,
+                values.budget,
+                values.period,
+                values.horizon,
+                values.delay,
+                self.records.pointer().cast(),
+                values.records.len(),
+                self.buffer.pointer(),
+                lent.len(),
+            )
+        };
+        self.count(Function::Write, got.number);
+        self.totals.writings += 1;
+        self.written(values, lent.len(), got, result, &wanted)
+            .map_err(|difference| format!("{difference}\n{values:?}\nbuffer of {}", lent.len()))?;
+        Ok(got)
+    }
+
+    /// What the buffer holds that was lent to the writer last.
+    pub fn buffer(&self) -> &[u8] {
+        self.buffer.bytes()
+    }
+
+    /// What a call of the writer left, compared.
+    fn written(
+        &mut self,
+        values: &Values,
+        room: usize,
+        got: Written,
+        result: Written,
+        wanted: &[u8],
+    ) -> Outcome {
+        same("writing", got, result)?;
+        let after = self.buffer.bytes().to_vec();
+        same_all("buffer", &after, wanted)?;
+        kept("buffer", &self.buffer)?;
+        same_all("records", self.records.bytes(), &flat(&values.records))?;
+        kept("records", &self.records)?;
+        if got.number == 0 {
+            self.totals.written += 1;
+            let table = &after[..room.min(got.length as usize)];
+            self.read(table)?;
+            same("read back", values_at(table), to_count(values))?;
+        }
+        Ok(())
+    }
+
     /// The sheet in a row that holds `row` before; gives the window and the
     /// row after.
     pub fn analyse(&mut self, bytes: &[u8], row: &[u16]) -> Outcome<(u16, Vec<u16>)> {
@@ -178,8 +273,7 @@ impl Comparison {
             },
         };
         self.table.lend(bytes, 1);
-        let flat: Vec<u8> = row.iter().flat_map(|place| place.to_le_bytes()).collect();
-        self.row.lend(&flat, 2);
+        self.row.lend(&flat(row), 2);
         let lent = self.row.pointer().cast();
         // SAFETY: the fences lend this many bytes and places, the row at an even address.
         let got = unsafe { cuorfelt_analyse(self.table.pointer(), bytes.len(), lent, row.len()) };

@@ -6,6 +6,7 @@ mod fence;
 mod layout;
 
 use compare::{Comparison, Function, Outcome, Totals};
+use sim::generate::values::REFUSALS;
 use std::io::Write;
 use std::time::{SystemTime, UNIX_EPOCH};
 
@@ -23,6 +24,7 @@ const LEAST_TICKS: u64 = 1_000_000;
 const LEAST_SECOND: u64 = 200_000;
 const LEAST_DELAYED: u64 = 3_000;
 const LEAST_STARVED: u64 = 100;
+const LEAST_WRITTEN: u64 = 80_000;
 
 fn main() {
     let words: Vec<String> = std::env::args().skip(1).collect();
@@ -77,11 +79,14 @@ fn gate() -> Outcome {
 fn complete(totals: &Totals) -> Outcome {
     let many = totals.tables >= LEAST_TABLES && totals.ticks >= LEAST_TICKS;
     let late = totals.delayed >= LEAST_DELAYED && totals.starved >= LEAST_STARVED;
-    if !many || !late || totals.second < LEAST_SECOND {
+    let written = totals.written >= LEAST_WRITTEN;
+    if !many || !late || !written || totals.second < LEAST_SECOND {
         return Err(format!("too few compared: {}", summary(totals)));
     }
     let read: Vec<usize> = (0..=14).chain([22]).collect();
+    let values: Vec<usize> = [0].into_iter().chain(REFUSALS.map(usize::from)).collect();
     let numbers = [
+        (Function::Write, values),
         (Function::Analyse, [&read[..], &[15, 16, 17]].concat()),
         (Function::Start, [&read[..], &[29]].concat()),
         (Function::Read, read),
@@ -101,7 +106,7 @@ fn complete(totals: &Totals) -> Outcome {
 
 fn summary(totals: &Totals) -> String {
     format!(
-        "{} tables ({} with a sheet, {} of these with a delay), {} ticks ({} on a cache of edition 2), {} histories ({} starved as long as a delay permits), {} damaged states, {} wrong lengths",
+        "{} tables ({} with a sheet, {} of these with a delay), {} ticks ({} on a cache of edition 2), {} histories ({} starved as long as a delay permits), {} damaged states, {} wrong lengths, {} writings ({} of them refused)",
         totals.tables,
         totals.accepted,
         totals.delayed,
@@ -110,7 +115,9 @@ fn summary(totals: &Totals) -> String {
         totals.histories,
         totals.starved,
         totals.damaged,
-        totals.lengths
+        totals.lengths,
+        totals.writings,
+        totals.writings - totals.written
     )
 }
 

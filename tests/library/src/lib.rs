@@ -1,4 +1,4 @@
-//! The five functions of include/cuorfelt.h.
+//! The six functions of include/cuorfelt.h.
 
 /// Number 0: accepted.
 #[repr(C)]
@@ -13,6 +13,15 @@ pub struct Refusal {
 #[derive(Clone, Copy, Debug, PartialEq, Eq)]
 pub struct Sheet {
     pub window: u16,
+    pub number: u8,
+    pub index: u8,
+}
+
+/// Length 0 where refused.
+#[repr(C)]
+#[derive(Clone, Copy, Debug, PartialEq, Eq)]
+pub struct Written {
+    pub length: u32,
     pub number: u8,
     pub index: u8,
 }
@@ -34,6 +43,18 @@ pub struct Reply {
 extern "C" {
     pub fn cuorfelt_state_length() -> usize;
     pub fn cuorfelt_read(table: *const u8, length: usize) -> Refusal;
+    pub fn cuorfelt_write(
+        edition: u16,
+        count: u16,
+        budget: u16,
+        period: u16,
+        horizon: u16,
+        delay: u16,
+        records: *const u16,
+        numbers: usize,
+        buffer: *mut u8,
+        length: usize,
+    ) -> Written;
     pub fn cuorfelt_analyse(table: *const u8, length: usize, row: *mut u16, places: usize)
         -> Sheet;
     pub fn cuorfelt_start(
