@@ -1,14 +1,14 @@
-/* Cuorfelt for hosts in C and C++: the callback table's reader, the timing sheet's analyser, and the executor as a machine
+/* Cuorfelt for hosts in C and C++: the callback table's writer and reader, the timing sheet's analyser, and the executor as a machine
  * that moves tick by tick. GUIDE.md explains every word used here, and STATE.md the bytes of a state; cuorfelt_text.h has the
  * words of the refusals. Link libcuorfelt; it needs the C library's memcpy and memset alone, on x86-64.
  *
  * Memory. A slice is passed as a pointer and a length. Every function may be called with any bytes and any length and returns; it
  * allocates nothing and keeps nothing between calls. A pointer must be valid for its length, and may be null where the length is 0.
  * Memory that is written may not overlap other memory of the same call. Tables and states may lie at any address; a row of
- * uint16_t lies at an even one, as C has it.
+ * uint16_t and the numbers of records lie at an even one, as C has it.
  * Threads. Any number of threads may call at once, if none writes memory that another one's call uses: a state belongs to
- * one call at a time, and so does a row; a table may be shared.
- * Stack. CUORFELT_STACK bytes suffice for any call. cuorfelt_tick was measured at 3,376 bytes, cuorfelt_analyse at 2,960; the rest is
+ * one call at a time, and so does a row or a buffer; a table may be shared.
+ * Stack. CUORFELT_STACK bytes suffice for any call. cuorfelt_tick was measured at 3,856 bytes, cuorfelt_analyse at 3,424; the rest is
  * for the loader, where it binds memcpy at the first call.
  *
  * A callback's index counts from 1, and is 0 where none is meant. */
@@ -25,8 +25,8 @@ extern "C" {
 /* The version of this header and of its library. A host is compiled anew where the first number differs; the second rises where
  * something is added, the third where neither is so. */
 #define CUORFELT_VERSION_MAJOR 1
-#define CUORFELT_VERSION_MINOR 2
-#define CUORFELT_VERSION_PATCH 2
+#define CUORFELT_VERSION_MINOR 3
+#define CUORFELT_VERSION_PATCH 0
 
 /* Sizes. */
 enum {
@@ -34,7 +34,8 @@ enum {
     CUORFELT_ENTRY_PLACES = 8,       /* cost entries of a callback, at most */
     CUORFELT_HEADER_LENGTH = 16,     /* bytes of a table: a header, and a record for each callback */
     CUORFELT_RECORD_LENGTH = 32,
-    CUORFELT_LONGEST_TABLE = 528,
+    CUORFELT_LONGEST_TABLE = 528,    /* bytes of a table of sixteen callbacks: a buffer that is long enough for any table */
+    CUORFELT_RECORD_NUMBERS = 14,    /* numbers of a callback that is to be written */
     CUORFELT_STATE_LENGTH = 640,     /* bytes of a state */
     CUORFELT_STACK = 8192            /* bytes of stack that suffice for any call */
 };
@@ -84,6 +85,7 @@ enum {
     CUORFELT_NOT_A_HEAD = 20,
     CUORFELT_QUEUE_FULL = 21,
     CUORFELT_WRONG_DELAY = 22,
+    CUORFELT_SHORT_BUFFER = 23,
     CUORFELT_FAULTY_STATE = 29
 };
 
@@ -93,6 +95,24 @@ typedef struct {
     uint8_t number;
     uint8_t index;
 } cuorfelt_refusal;
+
+/* A callback to be written: the fourteen numbers of its record by name, in their order. Entries beyond the used ones are 0. */
+typedef struct {
+    uint16_t kind;      /* CUORFELT_TIMER to CUORFELT_CLIENT */
+    uint16_t next;      /* the callback that each completion activates, from 1; 0 ends the chain */
+    uint16_t used;      /* m: how many of the entries are used, from 1 */
+    uint16_t period;    /* T, J and d of a head; 0 throughout for a follower */
+    uint16_t jitter;
+    uint16_t distance;
+    uint16_t entries[CUORFELT_ENTRY_PLACES]; /* E(1) to E(8) */
+} cuorfelt_callback;
+
+/* What the writer returns: the table's length in bytes, 0 where it refuses, and the refusal. */
+typedef struct {
+    uint32_t length;
+    uint8_t number;
+    uint8_t index;
+} cuorfelt_written;
 
 /* What the analyser returns: the window, 0 where it refuses, and the refusal. */
 typedef struct {
@@ -127,6 +147,17 @@ size_t cuorfelt_state_length(void);
 
 /* Reads a table and returns its refusal, or number 0 where it is accepted. */
 cuorfelt_refusal cuorfelt_read(const uint8_t *table, size_t length);
+
+/* Writes a table of `count` callbacks, 16 + 32 * count bytes, to the beginning of the buffer, and returns its length. Bytes of the buffer past
+ * the table are not touched. What is written is a table that cuorfelt_read accepts, and holds the numbers as they were given, a horizon of 0 too.
+ * budget, period, horizon and delay are Q, P, H and Z. `records` has CUORFELT_RECORD_NUMBERS numbers for each callback, in the order of
+ * cuorfelt_callback: for an array of these pass &callbacks[0].kind, and as `numbers` how many they are together. A number that is not
+ * there reads as 0; those past the last callback are ignored.
+ * Refusals: those of cuorfelt_read that numbers can meet, in its order (2, 3, 6, 22, 7; for each callback in turn 8, 9, 10, and 5 where an entry
+ * beyond the used ones is not 0; 11 to 14), and a number that is too large for its byte is refused like any other wrong one; then 23, the buffer is
+ * shorter than the table. A refusal touches no byte of the buffer and returns length 0. */
+cuorfelt_written cuorfelt_write(uint16_t edition, uint16_t count, uint16_t budget, uint16_t period, uint16_t horizon, uint16_t delay,
+                                const uint16_t *records, size_t numbers, uint8_t *buffer, size_t length);
 
 /* Analyses a table of n callbacks: returns the window and writes the bounds of callbacks 1 to n to row[0] to row[n - 1].
  * Places of the row from n on are not touched. A refusal, 17 (fewer than 16 places), any that cuorfelt_read gives, 15 or 16, touches no

@@ -29,7 +29,7 @@ static inline cuorfelt_words cuorfelt_text(unsigned number, unsigned index)
         return cuorfelt_words_of("the table has fewer than 16 bytes", "write the whole header; look whether the file was cut");
     case CUORFELT_UNKNOWN_EDITION:
         return cuorfelt_words_of("the edition is not 1 or 2",
-                                 "write the desk's edition, 1 or 2, into byte 0; look whether the file is a table, or one for a later version");
+                                 "give the desk's edition, 1 or 2; look whether the file is a table, or one for a later version");
     case CUORFELT_WRONG_COUNT:
         return cuorfelt_words_of("n is not 1 to 16", "declare one callback at least; beyond sixteen, join some or give them to another thread");
     case CUORFELT_WRONG_LENGTH:
@@ -37,7 +37,7 @@ static inline cuorfelt_words cuorfelt_text(unsigned number, unsigned index)
     case CUORFELT_SPARE_NOT_ZERO:
         if (index == 0)
             return cuorfelt_words_of("a byte of 10 to 15 is not zero", "write zeros");
-        return cuorfelt_words_of("byte 3, 10, 11 or 28 to 31 of its record, or an entry beyond m, is not zero",
+        return cuorfelt_words_of("an entry beyond m, or a spare byte of its record (3, 10, 11, 28 to 31), is not zero",
                                  "write zeros; raise m if the entry is meant");
     case CUORFELT_WRONG_SUPPLY:
         return cuorfelt_words_of("Q is zero or above P, or P is above 60,000", "give Q and P in ticks; choose a longer tick");
@@ -46,7 +46,7 @@ static inline cuorfelt_words cuorfelt_text(unsigned number, unsigned index)
     case CUORFELT_WRONG_HORIZON:
         return cuorfelt_words_of("H is above 60,000", "write 60,000 or less, or 0");
     case CUORFELT_WRONG_KIND:
-        return cuorfelt_words_of("its kind is not 1 to 4", "write the kind into byte 0 of the record");
+        return cuorfelt_words_of("its kind is not 1 to 4", "give it one of the four; look whether n is above the number of callbacks described");
     case CUORFELT_WRONG_NEXT:
         return cuorfelt_words_of("its next is above n", "name a callback that is there, or 0");
     case CUORFELT_WRONG_ENTRIES:
@@ -63,6 +63,8 @@ static inline cuorfelt_words cuorfelt_text(unsigned number, unsigned index)
         return cuorfelt_words_of("it is a head, and T is zero, T or J is above 60,000, or d is not 1 to T; or it is a follower, and T, J or d "
                                  "is not zero",
                                  "declare a head's arrivals, with a longer tick if they do not fit; write zeros for a follower");
+    case CUORFELT_SHORT_BUFFER:
+        return cuorfelt_words_of("the buffer is shorter than the table", "lend 16 + 32 n bytes; 528 do for any table");
     case CUORFELT_NO_WINDOW:
         return cuorfelt_words_of("there is no window up to H",
                                  "the desk asks for more than it is given: raise Q, lower Z or costs, raise T or d, lower J; if it is only behind "

@@ -22,6 +22,17 @@ static void nothing(void) {}
 
 static void read_table(void) { cuorfelt_read(table, length); }
 
+/* A chain of as many callbacks as the table has. */
+static void write_table(void)
+{
+    static cuorfelt_callback chain[CUORFELT_PLACES];
+    static uint8_t buffer[CUORFELT_LONGEST_TABLE];
+    uint16_t n = table[1] > CUORFELT_PLACES ? CUORFELT_PLACES : table[1];
+    for (uint16_t i = 0; i < n; i++)
+        chain[i] = (cuorfelt_callback){CUORFELT_CLIENT, i + 1 < n ? (uint16_t)(i + 2) : 0, 1, i ? 0 : 10, 0, i ? 0 : 10, {1}};
+    cuorfelt_write(1, n, 1, 1, 0, 0, &chain[0].kind, (size_t)CUORFELT_RECORD_NUMBERS * n, buffer, sizeof buffer);
+}
+
 static void analyse(void)
 {
     static uint16_t row[CUORFELT_PLACES];
@@ -65,7 +76,7 @@ static uint16_t heads(void)
 
 int main(int words, char **word)
 {
-    size_t reads = 0, analyses = 0, starts = 0, ticks = 0;
+    size_t reads = 0, writes = 0, analyses = 0, starts = 0, ticks = 0;
     for (int w = 1; w < words; w++) {
         FILE *file = fopen(word[w], "rb");
         if (!file)
@@ -73,12 +84,13 @@ int main(int words, char **word)
         length = fread(table, 1, sizeof table, file);
         fclose(file);
         reads = most(reads, read_table);
+        writes = most(writes, write_table);
         analyses = most(analyses, analyse);
         starts = most(starts, start);
         mask = heads();
         for (int t = 0; t < 300; t++)
             ticks = most(ticks, tick);
     }
-    printf("read %zu, analyse %zu, start %zu, tick %zu bytes of stack\n", reads, analyses, starts, ticks);
-    return reads > CUORFELT_STACK || analyses > CUORFELT_STACK || starts > CUORFELT_STACK || ticks > CUORFELT_STACK;
+    printf("read %zu, write %zu, analyse %zu, start %zu, tick %zu bytes of stack\n", reads, writes, analyses, starts, ticks);
+    return reads > CUORFELT_STACK || writes > CUORFELT_STACK || analyses > CUORFELT_STACK || starts > CUORFELT_STACK || ticks > CUORFELT_STACK;
 }
