@@ -82,14 +82,14 @@ pub fn copy(b: &mut [u8], at: usize, from: &[u8])
     }
 }
 
-// Writes the numbers of `from` to the bytes from `at` on, two bytes each.
-pub fn put_u16s(b: &mut [u8], at: usize, from: &[u16])
-    requires { ⌜ at + 2 * length (now from) ≤ length (now b) ⌝ }
-    ensures { λ _. ⌜ now (b .exit) ≡ over (now (b .entry)) at (run 2 (now (from .entry))) ⌝ }
+// Writes the numbers of `xs` to the bytes from `at` on, two bytes each.
+pub fn put_u16s(b: &mut [u8], at: usize, xs: &[u16])
+    requires { ⌜ at + 2 * length (now xs) ≤ length (now b) ⌝ }
+    ensures { λ _. ⌜ now (b .exit) ≡ over (now (b .entry)) at (run 2 (now (xs .entry))) ⌝ }
 {
     let mut i: usize = 0;
-    while i < from.len() {
-        put_u16(b, at + 2 * i, from[i]);
+    while i < xs.len() {
+        put_u16(b, at + 2 * i, xs[i]);
         i += 1;
     }
 }

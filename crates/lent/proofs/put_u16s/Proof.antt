@@ -14,13 +14,13 @@ use Rattle.lent.proofs.put_u16s.Statement.{statement}
 use Rattle.lent.proofs.put_u16s.Tie as tie
 
 abbrev Inv-loop : tie.InvT-loop
-Inv-loop b₀ at from i₀ b i = (i ≤ length from) × (length b ≡ length b₀) × (b ≡ over b₀ at (run 2 (take i from)))
+Inv-loop b₀ at xs i₀ b i = (i ≤ length xs) × (length b ≡ length b₀) × (b ≡ over b₀ at (run 2 (take i xs)))
 
 abbrev μ-loop : tie.MeasureT-loop
-μ-loop b₀ at from i₀ b i = length from - i
+μ-loop b₀ at xs i₀ b i = length xs - i
 
 loop-holds : tie.Need-loop-holds Inv-loop μ-loop
-loop-holds c = let a = c .before .before .args in (omega arith, refl, run-start 2 (now (a .b)) (now (a .from)) (a .at))
+loop-holds c = let a = c .before .before .args in (omega arith, refl, run-start 2 (now (a .b)) (now (a .xs)) (a .at))
 
 loop-again : tie.Need-loop-again Inv-loop μ-loop
 loop-again c =
@@ -29,8 +29,8 @@ loop-again c =
       omega arith,
       c .before .before .put-u16 .kept .0 ∙ l .inv .1,
       c .before .before .put-u16 .ensures
-          ∙ ap (λ (b : List ℕ). over b (a .at + 2 * l .i) (le 2 (getD (now (a .from)) (l .i) 0))) (l .inv .2)
-          ∙ run-step 2 (now (a .b)) (now (a .from)) (a .at) (l .i) (omega arith) (omega arith),
+          ∙ ap (λ (b : List ℕ). over b (a .at + 2 * l .i) (le 2 (getD (now (a .xs)) (l .i) 0))) (l .inv .2)
+          ∙ run-step 2 (now (a .b)) (now (a .xs)) (a .at) (l .i) (omega arith) (omega arith),
     )
 
 same-length : tie.Need-same-length Inv-loop μ-loop
@@ -40,7 +40,7 @@ returns : tie.Need-returns Inv-loop μ-loop
 returns c =
     let a = c .before .before .before .before .args in
     let l = c .before .loop in
-    l .inv .2 ∙ ap (λ (xs : List ℕ). over (now (a .b)) (a .at) (run 2 xs)) (take-all (l .i) (now (a .from)) (omega arith))
+    l .inv .2 ∙ ap (λ (ys : List ℕ). over (now (a .b)) (a .at) (run 2 ys)) (take-all (l .i) (now (a .xs)) (omega arith))
 
 pub put-u16s-spec : {M : Type 1} → statement M
 put-u16s-spec =
