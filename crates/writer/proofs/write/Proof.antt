@@ -12,6 +12,9 @@ use Rattle.writer.proofs.WriterLaws.{write-refused, write-short, write-
 use Rattle.writer.proofs.write.Statement.{statement}
 use Rattle.writer.proofs.write.Tie as tie
 
+refusing-requires : tie.Need-refusing-requires
+refusing-requires c κs = search needs
+
 returns : tie.Need-returns
 returns c =
     let f = c .before .before .before in
@@ -48,7 +51,7 @@ write-spec =
     tie.close
     (tie.spec
     (λ c κs. search needs)
-    (λ c κs. search needs)
+    refusing-requires
     returns
     (λ c. search needs)
     (λ c. search needs)
