@@ -3,14 +3,16 @@
 
 use crate::plain::every_length::EveryLength;
 use crate::plain::jumps::Jumps;
-use crate::plain::{machine, sheet};
-use library::{cuorfelt_analyse, cuorfelt_tick, Reply, Sheet};
+use crate::plain::{machine, sheet, writer};
+use library::{cuorfelt_analyse, cuorfelt_tick, cuorfelt_write, Reply, Sheet, Written};
 use sim::generate::damage::damaged;
 use sim::generate::states::{sound, spoil};
 use sim::generate::tables::{any_shape, table, Shape};
+use sim::generate::values::{rooms, values};
 use sim::machine::State;
 use sim::random::Random;
 use sim::table::encode;
+use sim::write::Values;
 
 pub const PLACES: usize = 16;
 pub const LENGTH: usize = 640;
@@ -58,6 +60,63 @@ pub fn sheets(bytes: &[u8]) -> Result<Sheet, String> {
     Ok(library)
 }
 
+/// What a writer takes: the header's numbers, and the records' numbers.
+pub struct Described {
+    header: writer::Header,
+    records: Vec<u16>,
+}
+
+impl Described {
+    pub fn new(values: &Values) -> Described {
+        Described {
+            header: [
+                values.edition,
+                values.count,
+                values.budget,
+                values.period,
+                values.horizon,
+                values.delay,
+            ],
+            records: values.records.clone(),
+        }
+    }
+}
+
+pub fn library_write(of: &Described, buffer: &mut [u8]) -> Written {
+    let [edition, count, budget, period, horizon, delay] = of.header;
+    let (numbers, length) = (of.records.len(), buffer.len());
+    // SAFETY: lends the slices as they are.
+    unsafe {
+        cuorfelt_write(
+            edition,
+            count,
+            budget,
+            period,
+            horizon,
+            delay,
+            of.records.as_ptr(),
+            numbers,
+            buffer.as_mut_ptr(),
+            length,
+        )
+    }
+}
+
+pub fn plain_write(of: &Described, buffer: &mut [u8]) -> Written {
+    writer::write(&of.header, &of.records, buffer)
+}
+
+/// Whether both write the same into a buffer of that length.
+pub fn writings(of: &Described, room: usize) -> Result<(), String> {
+    let (mut ours, mut theirs) = (vec![7; room], vec![7; room]);
+    let library = library_write(of, &mut ours);
+    let plain = plain_write(of, &mut theirs);
+    if library != plain || ours != theirs {
+        return Err(format!("{library:?}, plain {plain:?}"));
+    }
+    Ok(())
+}
+
 /// The state after a tick that both take to it.
 pub fn ticks(state: &[u8], offer: Offer) -> Result<Vec<u8>, String> {
     let (mut ours, mut theirs) = (state.to_vec(), state.to_vec());
@@ -87,7 +146,7 @@ pub fn packed(state: &State) -> Vec<u8> {
     bytes
 }
 
-/// Drawn tables and states, damaged ones among them; gives how many calls.
+/// Drawn tables, states and values, damaged ones among them; gives how many calls.
 pub fn drawn() -> Result<u64, String> {
     let mut random = Random::new(1);
     let mut calls = 0;
@@ -115,6 +174,13 @@ pub fn drawn() -> Result<u64, String> {
             lent = ticks(&lent, (mask, u8::from(random.chance(80)), cost))?;
         }
         calls += 11;
+    }
+    for _ in 0..3_000 {
+        let values = values(&mut random);
+        for room in rooms(&values) {
+            writings(&Described::new(&values), room)?;
+            calls += 1;
+        }
     }
     Ok(calls)
 }

@@ -8,3 +8,4 @@ pub mod jumps;
 pub mod machine;
 pub mod sheet;
 pub mod table;
+pub mod writer;

@@ -1,6 +1,6 @@
-//! What is timed: tables to analyse, and ticks in lent bytes.
+//! What is timed: tables to analyse and to write, and ticks in lent bytes.
 
-use crate::agree::{self, packed, Offer, PLACES};
+use crate::agree::{self, packed, Described, Offer, PLACES};
 use crate::plain::jumps::Jumps;
 use crate::plain::sheet::lengths;
 use sim::generate::histories::{within, Style};
@@ -10,7 +10,11 @@ use sim::random::Random;
 use sim::sheet::analyse;
 use sim::table::{encode, Callback, Kind, Table, HEADER_BYTES, LARGEST, RECORD_BYTES};
 use sim::text::{script, Line};
+use sim::write::values_at;
 use std::hint::black_box;
+
+const LONGEST_TABLE: usize = HEADER_BYTES + RECORD_BYTES * PLACES;
+const DESK: &[u8] = include_bytes!("../../examples/desk.table");
 
 pub struct Work {
     pub name: String,
@@ -22,6 +26,8 @@ enum Calls {
     Sheets(Vec<Vec<u8>>),
     /// A state, and ticks on it one after the other.
     Ticks(Vec<u8>, Vec<Offer>),
+    /// A table from its values.
+    Writing(Described),
 }
 
 /// Which of them is called.
@@ -29,7 +35,8 @@ enum Calls {
 pub enum Side {
     Library,
     Plain,
-    /// The plain analyser that tries every length; of a tick there is none.
+    /// The plain analyser that tries every length; of a tick and of the writer
+    /// there is none.
     EveryLength,
 }
 
@@ -50,6 +57,14 @@ impl Work {
         }
     }
 
+    fn writing(name: &str, table: &[u8]) -> Work {
+        Work {
+            name: format!("writer, {name}"),
+            unit: "table",
+            calls: Calls::Writing(Described::new(&values_at(table))),
+        }
+    }
+
     /// Whether lengths are searched.
     pub fn searches(&self) -> bool {
         matches!(self.calls, Calls::Sheets(_))
@@ -60,6 +75,7 @@ impl Work {
         match &self.calls {
             Calls::Sheets(tables) => tables.len(),
             Calls::Ticks(_, offers) => offers.len(),
+            Calls::Writing(_) => 1,
         }
     }
 
@@ -72,6 +88,8 @@ impl Work {
                 ticks(state, offers, agree::library_tick)
             }
             (Calls::Ticks(state, offers), _) => ticks(state, offers, agree::plain_tick),
+            (Calls::Writing(of), Side::Library) => writing(of, agree::library_write),
+            (Calls::Writing(of), _) => writing(of, agree::plain_write),
         }
     }
 
@@ -90,6 +108,7 @@ impl Work {
                     state = agree::ticks(&state, offer).map_err(told)?;
                 }
             }
+            Calls::Writing(of) => agree::writings(of, LONGEST_TABLE).map_err(told)?,
         }
         Ok(self.count() as u64)
     }
@@ -111,22 +130,29 @@ fn ticks<R>(state: &[u8], offers: &[Offer], tick: impl Fn(&mut [u8], Offer) -> R
     }
 }
 
+#[inline(always)]
+fn writing<R>(of: &Described, write: impl Fn(&Described, &mut [u8]) -> R) {
+    let mut buffer = [0; LONGEST_TABLE];
+    black_box(write(black_box(of), black_box(&mut buffer)));
+}
+
 /// All that is timed, from fixed seeds.
 pub fn all() -> Vec<Work> {
     let mut random = Random::new(7);
     let mut works = analyses(&mut random);
     works.extend(histories(&mut random));
     works.extend(repeated());
+    works.push(Work::writing("the desk of docs/GUIDE.md", DESK));
+    works.push(Work::writing("16 callbacks", &encode(&longest())));
     works
 }
 
 fn analyses(random: &mut Random) -> Vec<Work> {
-    let desk = include_bytes!("../../examples/desk.table").to_vec();
     let short = |window, _: &Table| (1..=100).contains(&window);
     let long = |window, _: &Table| (2_000..=20_000).contains(&window);
     let unsettled = |window, table: &Table| window == 0 && table.count() >= 8 && table.horizon == 0;
     vec![
-        Work::sheets("the desk of docs/GUIDE.md", vec![desk]),
+        Work::sheets("the desk of docs/GUIDE.md", vec![DESK.to_vec()]),
         Work::sheets("windows up to 100", drawn(random, 200, Shape::Small, short)),
         Work::sheets(
             "windows of 2,000 to 20,000",

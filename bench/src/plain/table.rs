@@ -6,7 +6,7 @@ pub const PLACES: usize = 16;
 pub const LARGEST: u16 = 60_000;
 pub const HEADER: usize = 16;
 pub const RECORD: usize = 32;
-const ENTRIES: usize = 8;
+pub const ENTRIES: usize = 8;
 
 const EDITION_ONE: u8 = 1;
 pub const EDITION_TWO: u8 = 2;
@@ -149,7 +149,7 @@ fn callback(record: &[u8], index: u8, count: usize) -> Result<Callback, Refusal>
     })
 }
 
-fn links(table: &mut Table) -> Result<(), Refusal> {
+pub fn links(table: &mut Table) -> Result<(), Refusal> {
     let (mut once, mut twice) = (0u16, 0u16);
     for callback in &table.callbacks[..table.count] {
         if callback.next != 0 {
@@ -189,7 +189,7 @@ fn reached(table: &Table) -> u16 {
     reached
 }
 
-fn arrivals(table: &Table) -> Result<(), Refusal> {
+pub fn arrivals(table: &Table) -> Result<(), Refusal> {
     for (slot, callback) in table.callbacks[..table.count].iter().enumerate() {
         let (period, jitter, distance) = (callback.period, callback.jitter, callback.distance);
         let fault = if table.heads & (1 << slot) != 0 {
