@@ -1,26 +1,24 @@
 -- Reading the bytes of a table: its spare bytes, its records in turn, and the reader as a whole. Assumes nothing.
--- spare-first, spare-second, spare-third: a record's spare bytes. records-more: one record more. table-whole: all of them under their header.
+-- spare-first, spare-second, spare-third: a record's spare bytes. table-whole: all records under their header.
 -- read-short, read-head, read-off, read-whole: the reader, test by test. reading-refused, reading-whole: what it hands back.
-use mathlib.Core.Path.{_≡_, sym, ap, ap₂, _∙_}
+use mathlib.Core.Path.{_≡_, sym, ap, _∙_}
 use mathlib.Core.Logic.{_≢_}
 use mathlib.Core.Bool.{Bool, true, false, not, and-false}
 use mathlib.Core.List.{List, [], _∷_}
 use Prim.Native.Nat.{ℕ, _+_, _-_, _≤_, _<_}
 use native.Mathlib.Omega.{arith}
 use lib.Dec.{eqb}
-use lib.ListN.{length, getD, set}
+use lib.ListN.{length, getD}
 use borrow.Author.Tests.{eq-eqb, ne-eqb, lt-ltb, le-ltb}
 use Rattle.numbers.specs.Numbers.{headerLength, shortHeader, wrongLength}
 use Rattle.lent.specs.Bytes.{get, numbers, zeros, fieldsAt}
-use Rattle.table.specs.declared.Callback.{Callback}
 use Rattle.table.specs.declared.Refusal.{Refusal}
 use Rattle.table.specs.declared.Table.{Table}
-use Rattle.table.specs.Values.{refuse, tableOf, withCallbacks, headless}
+use Rattle.table.specs.Values.{refuse, tableOf, headless}
 use Rattle.table.proofs.RefusalLaws.{first-refused, first-passed}
-use Rattle.table.proofs.PlacedLaws.{placed-more}
 use Rattle.rules.specs.Rules.{headFault, bodyFault}
 use Rattle.reader.specs.declared.Reading.{Reading}
-use Rattle.reader.specs.Format.{headerClear, recordAt, spareAt, recordStart, recordsTo, tableAt, sparesAt, wholeFault, readFault, refusedReading, readOf}
+use Rattle.reader.specs.Format.{headerClear, spareAt, recordStart, recordsTo, tableAt, sparesAt, wholeFault, readFault, refusedReading, readOf}
 
 -- ---- spare bytes, as runs that end before byte k + 4, k + 12 and k + 32
 
@@ -47,12 +45,9 @@ module _ (b : List ℕ) (k : ℕ) (x : Bool) (first : x ≡ zeros b (k + 3) (k +
         let rest : zeros b (k + 28) 4 ≡ z = ap (zeros b (k + 28)) four ∙ sym third in
         simp (one, e, two, f, rest)
 
--- ---- the records, one more, and the header's numbers beside all of them
+-- ---- the header's numbers beside all records
 
 module _ (b : List ℕ) (i : ℕ) (t : Table) (so : t ≡ headless (recordsTo b i)) where
-  pub records-more : (c : Callback) → c ≡ recordAt b (recordStart i) → withCallbacks t (set (t .callbacks) i c) ≡ headless (recordsTo b (i + 1))
-  records-more c f = ap₂ (λ (u : Table) (d : Callback). withCallbacks u (set (u .callbacks) i d)) so f ∙ ap headless (placed-more (λ j. recordAt b (recordStart j)) i)
-
   pub table-whole : (q p h z : ℕ) → i ≡ getD b 1 0 → q ≡ get 2 b 2 → p ≡ get 2 b 4 → h ≡ get 2 b 6 → z ≡ get 2 b 8
       → tableOf (getD b 0 0 ∷ getD b 1 0 ∷ []) (q ∷ p ∷ h ∷ z ∷ []) (t .callbacks) ≡ tableAt b
   unfolding tableAt fieldsAt numbers

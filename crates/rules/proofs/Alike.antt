@@ -9,7 +9,7 @@ use native.Mathlib.Omega.{arith}
 use lib.Dec.{eqb, ltb, leb}
 use lib.ListN.{getD}
 use Rattle.ranges.specs.Sum.{sum, given}
-use Rattle.ranges.specs.Least.{least, lowest}
+use Rattle.ranges.specs.Least.{lowest}
 use Rattle.ranges.proofs.SumLaws.{sum-same}
 use Rattle.ranges.proofs.LeastLaws.{least-same, lowest-same}
 use Rattle.masks.specs.Mask.{has}
@@ -17,7 +17,7 @@ use Rattle.numbers.specs.Numbers
 use Rattle.table.specs.declared.Callback.{Callback}
 use Rattle.table.specs.declared.Refusal.{Refusal}
 use Rattle.table.specs.declared.Table.{Table}
-use Rattle.table.specs.Values.{refuse, accepted, orElse, lowestRefused, tableTicks, callbackAt, kindOf, nextOf}
+use Rattle.table.specs.Values.{refuse, accepted, orElse, lowestRefused, tableTicks, callbackAt, nextOf}
 use Rattle.table.specs.Walk.{walk}
 use Rattle.table.specs.Links.{linked, named, isHead, onLoop}
 use Rattle.table.proofs.RefusalLaws.{first-alike}

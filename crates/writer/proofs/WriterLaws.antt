@@ -1,7 +1,7 @@
 -- The writes of a table, what they add up to, and the writer as a whole. Assumes nothing.
 -- header-parts, front-parts, record-parts: the writes of put_header, put_front and put_record.
 -- records-length, records-more: one record more. table-whole: the header, and all of them.
--- write-refused, write-short, write-fits, write-passed: the refusal, test by test. writing-refused, writing-done: what is handed back, and the buffer.
+-- write-refused, write-short, write-fits, write-passed: the refusal, test by test. writing-refused, writing-done: what is handed back, and the buffer. writing-passed: back again.
 use mathlib.Core.Path.{_≡_, refl, sym, ap, _∙_}
 use mathlib.Core.Logic.{_≢_}
 use mathlib.Core.Bool.{Bool, true, false, cond}
@@ -9,6 +9,7 @@ use mathlib.Core.List.{List, [], _∷_, _++_, append-assoc}
 use Prim.Native.Nat.{ℕ, _≤_, _<_, _+_, _*_, _%_}
 use native.Mathlib.Nat.{mod-eq-of-lt}
 use native.Mathlib.Numerals.{add-one}
+use native.Mathlib.Decide.{ℕ-discrete}
 use native.Mathlib.Omega.{arith}
 use lib.Dec.{eqb, ltb}
 use lib.ListN.{length, replicate, length-append}
@@ -191,3 +192,11 @@ module _ (t : Table) (b : List ℕ) (r : Refusal) (so : writeFault t (length b) 
 
   pub writing-done : r .number ≡ 0 → (writeOf t (length b) ≡ whole) × (bufferAfter t b ≡ over b 0 (written t))
   writing-done z = let e = eq-eqb (r .number) 0 z in (result true e, buffer true e)
+
+-- a writing without a refusal's number is not refused
+pub writing-passed : (t : Table) (b : List ℕ) → (writeOf t (length b)) .number ≡ 0 → (writeFault t (length b)) .number ≡ 0
+writing-passed t b done = go (ℕ-discrete ((writeFault t (length b)) .number) 0)
+  where
+    go : Dec ((writeFault t (length b)) .number ≡ 0) → (writeFault t (length b)) .number ≡ 0
+    go (yes e) = e
+    go (no h) = ap (λ (w : Written). w .number) (sym (writing-refused t b _ refl h .0)) ∙ done

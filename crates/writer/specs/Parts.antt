@@ -21,10 +21,12 @@ recordFront c = fieldBytes (take 4 recordFields) (take 4 (recordNumbers c))
 unfoldable pub narrow : ℕ → ℕ
 narrow x = cond (ltb 255 x) 255 x
 
--- a record, and a described table, with kind, next and m, edition and n in a byte each
+-- a record, a described one of a slot, and a described table, with kind, next and m, edition and n in a byte each
 abbrev pub narrowRecord : Callback → Callback
 narrowRecord c = callbackOf (narrow (c .kind) ∷ narrow (c .next) ∷ narrow (c .used) ∷ []) (callbackTicks c) (c .entries)
 
+abbrev pub narrowSlot : List ℕ → ℕ → Callback
+narrowSlot ns i = narrowRecord (describedRecord ns (recordSize * i))
+
 unfoldable pub narrowTable : List ℕ → List ℕ → List ℕ → Table
-narrowTable bytes ticks ns =
-    tableOf (narrow (getD bytes 0 0) ∷ narrow (getD bytes 1 0) ∷ []) ticks (placed (λ i. narrowRecord (describedRecord ns (recordSize * i))) places)
+narrowTable bytes ticks ns = tableOf (narrow (getD bytes 0 0) ∷ narrow (getD bytes 1 0) ∷ []) ticks (placed (narrowSlot ns) places)

@@ -6,8 +6,9 @@ use native.Mathlib.Omega.{arith}
 use denote.Ref.{now}
 use lib.ListN.{getD}
 use Rattle.table.specs.Values.{headless, placed}
-use Rattle.reader.specs.Format.{recordsTo}
-use Rattle.reader.proofs.FormatLaws.{records-more, table-whole}
+use Rattle.table.proofs.PlacedLaws.{headless-more}
+use Rattle.reader.specs.Format.{recordAt, recordStart, recordsTo}
+use Rattle.reader.proofs.FormatLaws.{table-whole}
 use borrow.Author.Needs.{needs}
 use Rattle.reader.proofs.table_at.Statement.{statement}
 use Rattle.reader.proofs.table_at.Tie as tie
@@ -25,7 +26,8 @@ loop-holds c = (omega arith, c .blank .ensures)
 loop-again : tie.Need-loop-again Inv-loop μ-loop
 loop-again c =
     let l = c .before .before .loop in
-    (omega arith, records-more (now (c .before .before .before .before .before .before .args .b)) (l .i) (l .t) (l .inv .1) _ (c .record-at .ensures))
+    let b = now (c .before .before .before .before .before .before .args .b) in
+    (omega arith, headless-more (λ j. recordAt b (recordStart j)) (l .i) (l .t) (l .inv .1) _ (c .record-at .ensures))
 
 returns : tie.Need-returns Inv-loop μ-loop
 returns c =

@@ -1,5 +1,4 @@
 -- Seven writes, one behind the other, are the header's fields.
-use mathlib.Core.Path.{_≡_}
 use Prim.Native.Nat.{_<_}
 use denote.Ref.{now}
 use borrow.Author.Needs.{needs}

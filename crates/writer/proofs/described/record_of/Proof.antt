@@ -1,7 +1,7 @@
 -- Six numbers, three of them for a byte, and the entries are the record.
 use denote.Ref.{now}
 use borrow.Author.Needs.{needs}
-use Rattle.writer.proofs.AlikeLaws.{record-made}
+use Rattle.writer.proofs.DescribedLaws.{record-made}
 use Rattle.writer.proofs.described.record_of.Statement.{statement}
 use Rattle.writer.proofs.described.record_of.Tie as tie
 

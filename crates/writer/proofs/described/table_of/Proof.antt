@@ -1,20 +1,20 @@
 -- After i steps the first i places are filled.
-use mathlib.Core.Path.{_≡_}
+use mathlib.Core.Path.{_≡_, ap, _∙_}
 use mathlib.Core.List.{[], _∷_}
-use Prim.Native.Nat.{_≤_, _-_, _*_}
+use Prim.Native.Nat.{ℕ, _≤_, _-_}
 use native.Mathlib.Nat.{le-antisymm}
 use native.Mathlib.Omega.{arith}
 use denote.Ref.{now}
 use borrow.Author.Needs.{needs}
 use Rattle.table.specs.Values.{headless, placed}
-use Rattle.writer.specs.Described.{recordSize, describedRecord}
-use Rattle.writer.specs.Parts.{narrowRecord}
-use Rattle.writer.proofs.AlikeLaws.{places-more, table-made}
+use Rattle.writer.specs.Parts.{narrowSlot}
+use Rattle.table.proofs.PlacedLaws.{headless-more}
+use Rattle.writer.proofs.DescribedLaws.{table-made}
 use Rattle.writer.proofs.described.table_of.Statement.{statement}
 use Rattle.writer.proofs.described.table_of.Tie as tie
 
 abbrev Inv-loop : tie.InvT-loop
-Inv-loop edition count budget period horizon delay ns t₀ i₀ t i = (i ≤ 16) × (t ≡ headless (placed (λ j. narrowRecord (describedRecord ns (recordSize * j))) i))
+Inv-loop edition count budget period horizon delay ns t₀ i₀ t i = (i ≤ 16) × (t ≡ headless (placed (narrowSlot ns) i))
 
 abbrev μ-loop : tie.MeasureT-loop
 μ-loop edition count budget period horizon delay ns t₀ i₀ t i = 16 - i
@@ -26,13 +26,15 @@ loop-holds c = (omega arith, c .blank .ensures)
 loop-again : tie.Need-loop-again Inv-loop μ-loop
 loop-again c =
     let l = c .before .before .loop in
-    (omega arith, places-more (now (c .before .before .before .before .before .args .records)) (l .i) (l .t) (l .inv .1) _ (c .record-of .ensures))
+    (omega arith, headless-more (narrowSlot (now (c .before .before .before .before .before .args .records))) (l .i) (l .t) (l .inv .1) _ (c .record-of .ensures))
 
 returns : tie.Need-returns Inv-loop μ-loop
 returns c =
     let l = c .before .before .before .loop in
     let a = c .before .before .before .before .before .before .args in
-    table-made (now (a .records)) (l .i) (l .t) (l .inv .1) (a .edition) (a .count) (a .budget ∷ a .period ∷ a .horizon ∷ a .delay ∷ []) (le-antisymm (l .inv .0) (c .before .before .loop-test .left)) (c .before .narrow .ensures) (c .narrow2 .ensures)
+    let all : l .i ≡ 16 = le-antisymm (l .inv .0) (c .before .before .loop-test .left) in
+    table-made (now (a .records)) (l .t) (l .inv .1 ∙ ap (λ (n : ℕ). headless (placed (narrowSlot (now (a .records))) n)) all) (a .edition) (a .count)
+    (a .budget ∷ a .period ∷ a .horizon ∷ a .delay ∷ []) (c .before .narrow .ensures) (c .narrow2 .ensures)
 
 pub table-of-spec : {M : Type 1} → statement M
 table-of-spec =

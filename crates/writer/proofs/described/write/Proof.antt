@@ -6,7 +6,7 @@ use denote.Ref.{now}
 use borrow.Author.Needs.{needs}
 use Rattle.table.specs.declared.Table.{Table}
 use Rattle.writer.specs.Writer.{writeOf, bufferAfter}
-use Rattle.writer.proofs.AlikeLaws.{described-narrow}
+use Rattle.writer.proofs.DescribedLaws.{described-narrow}
 use Rattle.writer.proofs.described.write.Statement.{statement}
 use Rattle.writer.proofs.described.write.Tie as tie
 
