@@ -93,6 +93,16 @@ fn header(bytes: &[u8]) -> Result<Table, Refusal> {
     }
     let (budget, period) = (word(bytes, 2), word(bytes, 4));
     let (horizon, delay) = (word(bytes, 6), word(bytes, 8));
+    judged_ticks(bytes[0], count, [budget, period, horizon, delay])
+}
+
+/// Q, P, H and Z, behind edition and count.
+#[inline(always)]
+pub fn judged_ticks(
+    edition: u8,
+    count: usize,
+    [budget, period, horizon, delay]: [u16; 4],
+) -> Result<Table, Refusal> {
     if budget == 0 || budget > period || period > LARGEST {
         return Err(refuse(6, 0));
     }
@@ -103,7 +113,7 @@ fn header(bytes: &[u8]) -> Result<Table, Refusal> {
         return Err(refuse(7, 0));
     }
     Ok(Table {
-        edition: bytes[0],
+        edition,
         count,
         budget,
         period,
@@ -115,6 +125,15 @@ fn header(bytes: &[u8]) -> Result<Table, Refusal> {
     })
 }
 
+/// Whether m and the used entries are by the rules.
+#[inline(always)]
+pub fn rising(cost: &[u16; ENTRIES], used: usize) -> bool {
+    (1..=ENTRIES).contains(&used)
+        && cost[0] != 0
+        && cost[..used].windows(2).all(|pair| pair[0] < pair[1])
+        && cost[used - 1] <= LARGEST
+}
+
 fn callback(record: &[u8], index: u8, count: usize) -> Result<Callback, Refusal> {
     let (kind, next, entries) = (record[0], record[1], record[2]);
     if kind == 0 || usize::from(kind) > KINDS {
@@ -124,15 +143,11 @@ fn callback(record: &[u8], index: u8, count: usize) -> Result<Callback, Refusal>
         return Err(refuse(9, index));
     }
     let used = usize::from(entries);
-    if used == 0 || used > ENTRIES {
-        return Err(refuse(10, index));
-    }
     let mut cost = [0; ENTRIES];
     for (place, entry) in cost.iter_mut().enumerate() {
         *entry = word(record, 12 + 2 * place);
     }
-    let rising = cost[..used].windows(2).all(|pair| pair[0] < pair[1]);
-    if cost[0] == 0 || !rising || cost[used - 1] > LARGEST {
+    if !rising(&cost, used) {
         return Err(refuse(10, index));
     }
     let unused = cost[used..].iter().any(|&entry| entry != 0);

@@ -1,8 +1,8 @@
 //! The writer.
 
 use super::table::{
-    arrivals, links, refuse, Callback, Table, EDITION_TWO, ENTRIES, HEADER, KINDS, LARGEST, PLACES,
-    RECORD,
+    arrivals, judged_ticks, links, refuse, rising, Callback, Table, EDITION_TWO, ENTRIES, HEADER,
+    KINDS, PLACES, RECORD,
 };
 use library::{Refusal, Written};
 
@@ -56,26 +56,11 @@ fn judged_header(
     if count == 0 || usize::from(count) > PLACES {
         return Err(refuse(3, 0));
     }
-    if budget == 0 || budget > period || period > LARGEST {
-        return Err(refuse(6, 0));
-    }
-    if delay > LARGEST {
-        return Err(refuse(22, 0));
-    }
-    if horizon > LARGEST {
-        return Err(refuse(7, 0));
-    }
-    Ok(Table {
-        edition: edition as u8,
-        count: count.into(),
-        budget,
-        period,
-        horizon,
-        delay,
-        callbacks: [Callback::default(); PLACES],
-        heads: 0,
-        kinds: [0; KINDS],
-    })
+    judged_ticks(
+        edition as u8,
+        count.into(),
+        [budget, period, horizon, delay],
+    )
 }
 
 fn judged_record(numbers: &[u16; NUMBERS], index: u8, count: usize) -> Result<Callback, Refusal> {
@@ -89,11 +74,7 @@ fn judged_record(numbers: &[u16; NUMBERS], index: u8, count: usize) -> Result<Ca
         return Err(refuse(9, index));
     }
     let m = usize::from(used);
-    if m == 0 || m > ENTRIES {
-        return Err(refuse(10, index));
-    }
-    let rising = cost[..m].windows(2).all(|pair| pair[0] < pair[1]);
-    if cost[0] == 0 || !rising || cost[m - 1] > LARGEST {
+    if !rising(&cost, m) {
         return Err(refuse(10, index));
     }
     if cost[m..].iter().any(|&entry| entry != 0) {
