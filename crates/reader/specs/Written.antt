@@ -1,4 +1,4 @@
--- The bytes of a table given as values: what the reader reads back.
+-- The bytes of a table given as values (document 01, 'The callback table'): what the writer writes and the reader reads back.
 use mathlib.Core.List.{List, [], _∷_, _++_}
 use Prim.Native.Nat.{ℕ, zero, suc}
 use lib.ListN.{replicate}

@@ -94,8 +94,8 @@ fn refusing(r: Refusal) -> Written
     }
 }
 
-// Writes a table given as values into the lent buffer, and says its length; a refusal leaves the buffer as it was, and so does every
-// byte past the table stay.
+// Writes a table given as values into the lent buffer, and says its length. A refusal leaves the buffer as it was; what stands past the
+// table is kept.
 pub fn write(t: Table, buffer: &mut [u8]) -> Written
     ensures { λ r. ⌜ (r ≡ writeOf t (length (now (buffer .entry)))) × (now (buffer .exit) ≡ bufferAfter t (now (buffer .entry))) ⌝ }
 {
