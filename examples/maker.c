@@ -13,16 +13,14 @@
 
 enum { BEAT = 1, CHASE, KEY, CAPTION, SHOW, LINK, LAMP, CALLBACKS = LAMP };
 
-static const char *const names[] = {"", "beat", "chase", "key", "caption", "show", "link", "lamp"};
-
 /* Ticks of 1 ms. A follower has no arrivals of its own. */
 static const cuorfelt_callback desk[CALLBACKS] = {
-    [BEAT - 1] = {.kind = CUORFELT_TIMER, .next = CHASE, .period = 40, .jitter = 2, .distance = 38, .used = 1, .entries = {2}},
+    [BEAT - 1] = {.kind = CUORFELT_TIMER, .next = CHASE, .used = 1, .period = 40, .jitter = 2, .distance = 38, .entries = {2}},
     [CHASE - 1] = {.kind = CUORFELT_SUBSCRIPTION, .used = 1, .entries = {3}},
-    [KEY - 1] = {.kind = CUORFELT_SUBSCRIPTION, .next = CAPTION, .period = 200, .jitter = 150, .distance = 50, .used = 1, .entries = {1}},
+    [KEY - 1] = {.kind = CUORFELT_SUBSCRIPTION, .next = CAPTION, .used = 1, .period = 200, .jitter = 150, .distance = 50, .entries = {1}},
     [CAPTION - 1] = {.kind = CUORFELT_SERVICE, .next = SHOW, .used = 2, .entries = {12, 18}},
     [SHOW - 1] = {.kind = CUORFELT_CLIENT, .used = 1, .entries = {2}},
-    [LINK - 1] = {.kind = CUORFELT_CLIENT, .next = LAMP, .period = 100, .jitter = 90, .distance = 10, .used = 1, .entries = {2}},
+    [LINK - 1] = {.kind = CUORFELT_CLIENT, .next = LAMP, .used = 1, .period = 100, .jitter = 90, .distance = 10, .entries = {2}},
     [LAMP - 1] = {.kind = CUORFELT_SUBSCRIPTION, .used = 1, .entries = {1}},
 };
 
@@ -32,10 +30,17 @@ static cuorfelt_written write_desk(uint8_t *buffer, size_t length)
     return cuorfelt_write(CUORFELT_EDITION_ONE, CALLBACKS, 6, 10, 1000, 0, &desk[0].kind, CUORFELT_RECORD_NUMBERS * CALLBACKS, buffer, length);
 }
 
+/* The name of a callback that has one. */
+static const char *name_of(unsigned index)
+{
+    static const char *const names[CALLBACKS + 1] = {"", "beat", "chase", "key", "caption", "show", "link", "lamp"};
+    return index <= CALLBACKS && names[index] ? names[index] : "";
+}
+
 static int refused(unsigned number, unsigned index)
 {
     cuorfelt_words words = cuorfelt_text(number, index);
-    printf("refused %u %u # %s%s%s; %s\n", number, index, names[index], index ? ": " : "", words.wrong, words.change);
+    printf("refused %u %u # %s%s%s; %s\n", number, index, name_of(index), index ? ": " : "", words.wrong, words.change);
     return 1;
 }
 
@@ -75,7 +80,7 @@ int main(int words, char **word)
     if (!stored(word[1], table, written.length))
         return failed(word[1]);
     printf("window %d\n", sheet.window);
-    for (int index = 1; index <= CALLBACKS; index++)
-        printf("%d %d # %s\n", index, row[index - 1], names[index]);
+    for (unsigned index = 1; index <= CALLBACKS; index++)
+        printf("%u %d # %s\n", index, row[index - 1], name_of(index));
     return fflush(stdout) ? failed("standard output") : 0;
 }

@@ -43,7 +43,7 @@ enum {
 /* Limits. */
 enum {
     CUORFELT_LONGEST = 60000,        /* the largest period, delay, jitter, horizon, cost entry and cost, in ticks */
-    CUORFELT_DEFAULT_HORIZON = 60000, /* what a horizon of 0 means */
+    CUORFELT_DEFAULT_HORIZON = 60000, /* what a horizon of 0 means; to have it, give 0 */
     CUORFELT_MOST_WAITING = 255,     /* instances of a callback that wait, at most */
     CUORFELT_MOST_TICKS = 1000000000 /* ticks that a machine takes, at most */
 };
@@ -151,8 +151,9 @@ cuorfelt_refusal cuorfelt_read(const uint8_t *table, size_t length);
 /* Writes a table of `count` callbacks, 16 + 32 * count bytes, to the beginning of the buffer, and returns its length. Bytes of the buffer past
  * the table are not touched. What is written is a table that cuorfelt_read accepts, and holds the numbers as they were given, a horizon of 0 too.
  * budget, period, horizon and delay are Q, P, H and Z. `records` has CUORFELT_RECORD_NUMBERS numbers for each callback, in the order of
- * cuorfelt_callback: for an array of these pass &callbacks[0].kind, and as `numbers` how many they are together. A number that is not
- * there reads as 0; those past the last callback are ignored.
+ * cuorfelt_callback: for an array of these pass &callbacks[0].kind. `numbers` says how many numbers, not bytes, there are. One that is not
+ * there reads as 0; those past the last callback are ignored, and must be there all the same if `numbers` counts them. C cuts a number
+ * above 65,535 down as it is passed or stored: test for that before.
  * Refusals: those of cuorfelt_read that numbers can meet, in its order (2, 3, 6, 22, 7; for each callback in turn 8, 9, 10, and 5 where an entry
  * beyond the used ones is not 0; 11 to 14), and a number that is too large for its byte is refused like any other wrong one; then 23, the buffer is
  * shorter than the table. A refusal touches no byte of the buffer and returns length 0. */

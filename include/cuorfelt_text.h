@@ -29,7 +29,7 @@ static inline cuorfelt_words cuorfelt_text(unsigned number, unsigned index)
         return cuorfelt_words_of("the table has fewer than 16 bytes", "write the whole header; look whether the file was cut");
     case CUORFELT_UNKNOWN_EDITION:
         return cuorfelt_words_of("the edition is not 1 or 2",
-                                 "give the desk's edition, 1 or 2; look whether the file is a table, or one for a later version");
+                                 "give the desk's edition, 1 or 2; of a file, look whether it is a table, or one for a later version");
     case CUORFELT_WRONG_COUNT:
         return cuorfelt_words_of("n is not 1 to 16", "declare one callback at least; beyond sixteen, join some or give them to another thread");
     case CUORFELT_WRONG_LENGTH:
@@ -37,8 +37,8 @@ static inline cuorfelt_words cuorfelt_text(unsigned number, unsigned index)
     case CUORFELT_SPARE_NOT_ZERO:
         if (index == 0)
             return cuorfelt_words_of("a byte of 10 to 15 is not zero", "write zeros");
-        return cuorfelt_words_of("an entry beyond m, or a spare byte of its record (3, 10, 11, 28 to 31), is not zero",
-                                 "write zeros; raise m if the entry is meant");
+        return cuorfelt_words_of("an entry beyond m is not zero, or, in bytes, one of 3, 10, 11 or 28 to 31 of its record",
+                                 "raise m if the entry is meant; otherwise write zeros");
     case CUORFELT_WRONG_SUPPLY:
         return cuorfelt_words_of("Q is zero or above P, or P is above 60,000", "give Q and P in ticks; choose a longer tick");
     case CUORFELT_WRONG_DELAY:
@@ -46,7 +46,7 @@ static inline cuorfelt_words cuorfelt_text(unsigned number, unsigned index)
     case CUORFELT_WRONG_HORIZON:
         return cuorfelt_words_of("H is above 60,000", "write 60,000 or less, or 0");
     case CUORFELT_WRONG_KIND:
-        return cuorfelt_words_of("its kind is not 1 to 4", "give it one of the four; look whether n is above the number of callbacks described");
+        return cuorfelt_words_of("its kind is not 1 to 4", "give it one of the four; of a list, look whether it has fourteen numbers for each callback, and n callbacks");
     case CUORFELT_WRONG_NEXT:
         return cuorfelt_words_of("its next is above n", "name a callback that is there, or 0");
     case CUORFELT_WRONG_ENTRIES:
@@ -54,15 +54,16 @@ static inline cuorfelt_words cuorfelt_text(unsigned number, unsigned index)
                                  "give as many entries as m says, rising; where two instances cost no more than one, write one tick more "
                                  "or leave the entry out");
     case CUORFELT_NAMED_TWICE:
-        return cuorfelt_words_of("two records name it as next", "give each its own follower");
+        return cuorfelt_words_of("two records name it as next", "look which callbacks have it as next, and give each its own follower");
     case CUORFELT_TIMER_NAMED:
         return cuorfelt_words_of("a record names it as next, and it is a timer", "let the chain end before it, or make it a subscription");
     case CUORFELT_LOOP:
         return cuorfelt_words_of("next leads from it back to it", "end the chain somewhere");
     case CUORFELT_WRONG_ARRIVALS:
-        return cuorfelt_words_of("it is a head, and T is zero, T or J is above 60,000, or d is not 1 to T; or it is a follower, and T, J or d "
-                                 "is not zero",
-                                 "declare a head's arrivals, with a longer tick if they do not fit; write zeros for a follower");
+        return cuorfelt_words_of("no record names it, so it is a head, and T is zero, T or J is above 60,000, or d is not 1 to T; or a record "
+                                 "names it, so it is a follower, and T, J or d is not zero",
+                                 "if it was meant to be the other, look which callbacks have it as next; else declare a head's arrivals, with a "
+                                 "longer tick if they do not fit, or write zeros for a follower");
     case CUORFELT_SHORT_BUFFER:
         return cuorfelt_words_of("the buffer is shorter than the table", "lend 16 + 32 n bytes; 528 do for any table");
     case CUORFELT_NO_WINDOW:
