@@ -1,7 +1,8 @@
 -- One tick, case by case. Assumes nothing.
 --   effect-cases      what holds of a tick without supply, of one that is nobody's turn, and of one in which an instance finishes or goes on
 --                     holds of the effect
---   Turned, turned    whose turn a supplied tick is: that of the instance that runs, which goes on, or of the chosen one, which starts
+--   Turned, turned    whose turn a supplied tick is: that of the instance that runs, which goes on, or of the chosen one, which starts, unpolled
+--                     ones before all else
 --   completes, has-units, finisher   whoever finishes has the turn, and whoever has it can complete
 use mathlib.Core.Path.{_≡_, refl, ap, _∙_, subst, sym}
 use mathlib.Core.Logic.{_≢_}
@@ -14,8 +15,11 @@ use borrow.Author.Tests.{ne-eqb}
 use Rattle.masks.specs.Mask.{has}
 use Rattle.ranges.specs.Sum.{given, hit}
 use Rattle.ranges.proofs.SumLaws.{hit-none}
+use Rattle.ranges.proofs.EveryLaws.{never-both}
 use Rattle.rules.specs.Parts.{Sound}
-use Rattle.numbers.specs.Numbers.{places, mostWaiting, longest}
+use Rattle.numbers.specs.Numbers.{timer, client, places, mostWaiting, longest}
+use Rattle.table.specs.Values.{kindOf}
+use Rattle.priority.specs.Priority.{precedes}
 use Rattle.answers.specs.declared.Outcome.the-variants.{Answered}
 use Rattle.answers.specs.Outcome.{finishedOf}
 use Rattle.turns.specs.declared.Choice.{Choice}
@@ -63,6 +67,9 @@ pub record Turned (m : Machine) (cost : ℕ) (x : Turn) : Type 0 where
   pub kept : Cached (m .table) (x .cache) (m .waiting)
   pub waiting : (i : ℕ) → x .chosen ≡ suc i → (i < m .table .count) × (0 < waitingOf m i) × (isPolled (m .table) i ≡ true → has (x .cache) i ≡ true)
   pub some : (j : ℕ) → j < m .table .count → 0 < waitingOf m j → x .chosen ≢ 0
+  -- where an unpolled callback waits, whoever starts is it or has the higher priority
+  pub urgent : (i j : ℕ) → i < m .table .count → 0 < waitingOf m i → isPolled (m .table) i ≡ false
+      → x .started ≡ true → x .chosen ≡ suc j → i ≢ j → precedes (m .table) j i ≡ true
   pub units : (1 ≤ x .units) × (x .units ≤ longest)
   pub nobody : x .chosen ≡ 0 → (m .running ≡ 0) × (x .started ≡ false)
   -- what runs goes on, or what starts brings the tick's cost
@@ -79,7 +86,8 @@ module _ (m : Machine) (ok : Valid m) (cost : ℕ) (priced : (1 ≤ cost) × (co
   begins x ch e = record {
     kept = ch .kept;
     waiting = ch .waiting;
-    some = ch .some (λ i l. (let so = table-sound (m .table) (ok .table) in (so .kind-from i l, so .kind-to i l)));
+    some = ch .some kinds;
+    urgent = λ i j l h p s q d. ch .urgent kinds i j l h p q d;
     units = priced;
     nobody = λ z. (e, ap (λ (y : ℕ). not (eqb y 0)) z);
     turn = λ i j q. rw (e, somebody i q, hit-none, zero-add) (started-hit i j);
@@ -88,6 +96,9 @@ module _ (m : Machine) (ok : Valid m) (cost : ℕ) (priced : (1 ≤ cost) × (co
     where
       somebody : (i : ℕ) → x .chosen ≡ suc i → eqb (x .chosen) 0 ≡ false
       somebody i q = ne-eqb (x .chosen) 0 (λ z. omega arith)
+
+      kinds : (i : ℕ) → i < m .table .count → (timer ≤ kindOf (m .table) i) × (kindOf (m .table) i ≤ client)
+      kinds i l = (let so = table-sound (m .table) (ok .table) in (so .kind-from i l, so .kind-to i l))
 
   pub turned : Turned m cost (turnIn m cost)
   unfolding turnOf
@@ -102,6 +113,7 @@ module _ (m : Machine) (ok : Valid m) (cost : ℕ) (priced : (1 ≤ cost) × (co
         kept = ok .cached;
         waiting = λ j q. ok .runner j (e ∙ q);
         some = λ j l w z. omega arith;
+        urgent = λ u j l h p s q d. absurd (never-both false s refl);
         units = ok .measured i e;
         nobody = λ z. absurd (omega arith);
         turn = λ k j q. rw (e, q) (omega arith);

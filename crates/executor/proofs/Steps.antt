@@ -19,6 +19,7 @@ use Rattle.table.specs.declared.Table.{Table}
 use Rattle.numbers.specs.Numbers.{places, longest}
 use Rattle.table.specs.Values.{nextOf}
 use Rattle.table.specs.Links.{nextAfter, foreign}
+use Rattle.priority.specs.Priority.{precedes}
 use Rattle.rules.specs.Parts.{Sound}
 use Rattle.answers.specs.declared.Answer.{Answer}
 use Rattle.answers.specs.declared.Outcome.the-variants.{Answered}
@@ -26,6 +27,7 @@ use Rattle.answers.specs.Outcome.{callbackOf, instanceOf, finishedOf}
 use Rattle.queues.specs.Queues.{counted, completed}
 use Rattle.queues.proofs.QueueLaws.{counted-length, counted-at, completed-length, completed-at}
 use Rattle.turns.specs.declared.Turn.{Turn}
+use Rattle.turns.specs.Choosing.{isPolled}
 use Rattle.turns.specs.Turns.{idles, finishes, continues}
 use Rattle.executor.specs.declared.Machine.{Machine}
 use Rattle.executor.specs.declared.Ticked.{Ticked}
@@ -57,6 +59,9 @@ pub record Stepped (t : Table) (m : Machine) (mask : ℕ) (supplied : Bool) (cos
   -- whoever is named is one of the table's; it waits, and its instance is the one after those finished
   pub names : (i : ℕ) → callbackOf (o .outcome) ≡ suc i → (i < t .count) × (0 < waitingOf m i + given (has mask i) 1) × (instanceOf (o .outcome) ≡ suc (finishedAt m i))
   pub whose : (p : ℕ) → finishedOf (o .outcome) ≡ suc p → p < t .count
+  -- where an unpolled callback waits after the arrivals, whoever starts is it or has the higher priority
+  pub urgent : (i j : ℕ) → i < t .count → 0 < waitingOf m i + given (has mask i) 1 → isPolled t i ≡ false
+      → o .started ≡ true → callbackOf (o .outcome) ≡ suc j → i ≢ j → precedes t j i ≡ true
   pub answers : (y : Answer) × (o .outcome ≡ Answered y)
 
 module _ (m : Machine) (ok : Valid m) (mask cost : ℕ) (priced : (1 ≤ cost) × (cost ≤ longest)) (heads : foreign (m .table) mask ≡ 0) where
@@ -96,6 +101,7 @@ module _ (m : Machine) (ok : Valid m) (mask cost : ℕ) (priced : (1 ≤ cost) �
     clock = omega arith;
     names = λ i e. absurd (omega arith);
     whose = λ p e. absurd (omega arith);
+    urgent = λ u j h q p s f d. absurd (omega arith);
     answers = (_, refl);
   }
 
@@ -113,6 +119,7 @@ module _ (m : Machine) (ok : Valid m) (mask cost : ℕ) (priced : (1 ≤ cost) �
     clock = omega arith;
     names = λ i e. absurd (omega arith);
     whose = λ p e. absurd (omega arith);
+    urgent = λ u j h q p s f d. absurd (omega arith);
     answers = (_, refl);
   })
 
@@ -134,6 +141,11 @@ module _ (m : Machine) (ok : Valid m) (mask cost : ℕ) (priced : (1 ≤ cost) �
         subst (λ (y : ℕ). (y < t .count) × (0 < waitingOf m y + given (has mask y) 1) × (instanceAt a (x .chosen) ≡ suc (finishedAt m y)))
         (omega arith)
         (l, omega (arith, waits, at i (omega (arith, l, so .few))), instance)
+
+    -- who goes after it if it starts
+    ahead : (u j : ℕ) → u < t .count → 0 < waitingOf m u + given (has mask u) 1 → isPolled t u ≡ false
+        → x .started ≡ true → suc i ≡ suc j → u ≢ j → precedes t j u ≡ true
+    ahead u j h q p s f d = w .urgent u j h (omega (arith, at u (omega (arith, so .few)))) p s (e ∙ f) d
 
     last : x .units ≡ 1 → Stepped t m mask true cost (ticked a x (finishes x i (instanceAt a (x .chosen))))
     unfolding left nextAfter
@@ -164,6 +176,7 @@ module _ (m : Machine) (ok : Valid m) (mask cost : ℕ) (priced : (1 ≤ cost) �
       clock = omega arith;
       names = named;
       whose = λ p q. omega (arith, l);
+      urgent = ahead;
       answers = (_, refl);
     }
       where
@@ -203,6 +216,7 @@ module _ (m : Machine) (ok : Valid m) (mask cost : ℕ) (priced : (1 ≤ cost) �
       clock = omega arith;
       names = named;
       whose = λ p q. absurd (omega arith);
+      urgent = ahead;
       answers = (_, refl);
     }
       where

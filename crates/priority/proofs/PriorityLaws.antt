@@ -1,16 +1,16 @@
 -- The first in priority is found in the kinds' masks. Assumes nothing.
 -- kinds-more: one record sorted in. next-some, next-none: an index or what follows.
 -- foremost-law: the first in priority from the kinds' masks. foremost-hit, foremost-some, foremost-first: it passes, is there where one
--- passes, and precedes whoever else does.
+-- passes, and precedes whoever else does. precedes-trans: whoever precedes one that precedes another precedes that one.
 use mathlib.Core.Path.{_≡_, refl, sym, ap, ap₂, _∙_}
 use mathlib.Core.Logic.{_⊎_, inl, inr, _≢_}
-use mathlib.Core.Bool.{Bool, true, _&&_, _||_, or-true}
+use mathlib.Core.Bool.{Bool, true, false, _&&_, _||_, or-true}
 use Prim.Native.Nat.{ℕ, zero, suc, _+_, _≤_, _<_}
 use native.Mathlib.Decide.{ℕ-discrete}
 use native.Mathlib.Numerals.{add-one}
 use native.Mathlib.Omega.{arith}
 use lib.Dec.{eqb, ltb}
-use borrow.Author.Tests.{eq-eqb, eqb-true, lt-ltb}
+use borrow.Author.Tests.{eq-eqb, eqb-true, lt-ltb, ltb-true}
 use Rattle.masks.specs.Mask.{has, gather}
 use Rattle.masks.specs.Parts.{both, firstIndex}
 use Rattle.masks.proofs.Index.{first-both}
@@ -134,3 +134,35 @@ module _ (t : Table) (p : ℕ → Bool) where
 
       pub foremost-first : timer ≤ kindOf t j → kindOf t j ≤ client → foremost t p ≡ suc i → precedes t i j ≡ true
       foremost-first a b e = first-from client timer a (omega arith) e
+
+-- ---- the higher priority
+
+-- of two kinds the smaller, and of one kind the smaller slot
+higher : (t : Table) (i j : ℕ) → precedes t i j ≡ true → (kindOf t i ≤ kindOf t j) × (kindOf t j ≤ kindOf t i → i < j)
+unfolding precedes
+higher t i j = go (ltb (kindOf t i) (kindOf t j)) refl
+  where
+    go : (b : Bool) → ltb (kindOf t i) (kindOf t j) ≡ b → (b || (eqb (kindOf t i) (kindOf t j) && ltb i j)) ≡ true
+        → (kindOf t i ≤ kindOf t j) × (kindOf t j ≤ kindOf t i → i < j)
+    go true l e = (let a = ltb-true (kindOf t i) (kindOf t j) l in (omega arith, λ h. absurd (omega arith)))
+    go false l e =
+        let a = and-holds (eqb (kindOf t i) (kindOf t j)) (ltb i j) e in
+        (omega (arith, eqb-true (kindOf t i) (kindOf t j) (a .0)), λ h. ltb-true i j (a .1))
+
+pub precedes-trans : (t : Table) (i j k : ℕ) → precedes t i j ≡ true → precedes t j k ≡ true → precedes t i k ≡ true
+unfolding precedes
+precedes-trans t i j k e f = go (le-or-lt (kindOf t k) (kindOf t i))
+  where
+    a : (kindOf t i ≤ kindOf t j) × (kindOf t j ≤ kindOf t i → i < j)
+    a = higher t i j e
+
+    b : (kindOf t j ≤ kindOf t k) × (kindOf t k ≤ kindOf t j → j < k)
+    b = higher t j k f
+
+    go : (kindOf t k ≤ kindOf t i) ⊎ (kindOf t i < kindOf t k) → precedes t i k ≡ true
+    go (inl h) =
+        ap₂ (λ (x y : Bool). ltb (kindOf t i) (kindOf t k) || (x && y))
+        (eq-eqb (kindOf t i) (kindOf t k) (omega (arith, a .0, b .0)))
+        (lt-ltb i k (omega (arith, a .1 (omega (arith, b .0)), b .1 (omega (arith, a .0)))))
+        ∙ or-true (ltb (kindOf t i) (kindOf t k))
+    go (inr h) = ap (λ (x : Bool). x || (eqb (kindOf t i) (kindOf t k) && ltb i k)) (lt-ltb (kindOf t i) (kindOf t k) h)

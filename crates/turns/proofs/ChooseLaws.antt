@@ -1,6 +1,6 @@
 -- Step 3 of a tick.
---   Chosen, chooses                        what a choice gives: the chosen one waits and is cached then if it is polled, the cache holds
---                                          what it should, and somebody is chosen wherever somebody waits. Nothing there asks who is polled.
+--   Chosen, chooses                        what a choice gives, whoever is polled: the chosen one waits and is cached then if it is polled, the cache
+--                                          holds what it should, somebody is chosen wherever somebody waits, and unpolled ones go before all else
 --   all-polled, chosen-cached, cache-first  edition 2: nobody is chosen outside the cache, and while it has somebody, a timer that waits outside it
 --                                          goes on waiting
 --   first-unpolled, first-cached, at-poll  what is chosen in masks, search by search
@@ -28,9 +28,9 @@ use Rattle.turns.specs.declared.Waits as split
 use Rattle.turns.specs.Choosing.{polled, isPolled, choice, gatheredOf, pollingPoint, choose}
 use Rattle.turns.specs.Parts.{waitsOf, pollIn, chooseIn, Cached}
 use Rattle.queues.specs.Queues.{waits}
-use Rattle.priority.specs.Priority.{foremostFrom, foremost}
+use Rattle.priority.specs.Priority.{precedes, foremostFrom, foremost}
 use Rattle.priority.specs.Parts.{foremostIn, kindsOf}
-use Rattle.priority.proofs.PriorityLaws.{foremost-law, foremost-hit, foremost-some}
+use Rattle.priority.proofs.PriorityLaws.{foremost-law, foremost-hit, foremost-some, foremost-first}
 
 -- a choice by what its two searches find, and by what a poll would give
 abbrev chosenOf : ℕ → ℕ → ℕ → Choice → Choice
@@ -43,6 +43,9 @@ pub record Chosen (t : Table) (ws : List ℕ) (r : Choice) : Type 0 where
   pub waiting : (i : ℕ) → r .chosen ≡ suc i → (i < t .count) × (0 < getD ws i 0) × (isPolled t i ≡ true → has (r .cache) i ≡ true)
   -- over a table whose kinds are in order
   pub some : ((i : ℕ) → i < t .count → (timer ≤ kindOf t i) × (kindOf t i ≤ client)) → (j : ℕ) → j < t .count → 0 < getD ws j 0 → r .chosen ≢ 0
+  -- where an unpolled callback waits, the chosen one is it or has the higher priority
+  pub urgent : ((i : ℕ) → i < t .count → (timer ≤ kindOf t i) × (kindOf t i ≤ client))
+      → (i j : ℕ) → i < t .count → 0 < getD ws i 0 → isPolled t i ≡ false → r .chosen ≡ suc j → i ≢ j → precedes t j i ≡ true
 
 not-true : (b : Bool) → not b ≡ true → b ≡ false
 not-true true e = sym e
@@ -59,6 +62,11 @@ module _ (t : Table) (ws : List ℕ) where
       let a = and-holds (ltb i (t .count)) (isPolled t i && waits ws i) (sym (gather-has (λ j. isPolled t j && waits ws j) (t .count) i) ∙ h) in
       let b = and-holds (isPolled t i) (waits ws i) (a .1) in
       (ltb-true i (t .count) (a .0), ltb-true 0 (getD ws i 0) (b .1), b .0)
+
+  -- an unpolled callback that waits is among those searched first
+  passes : (i : ℕ) → 0 < getD ws i 0 → isPolled t i ≡ false → unpolled i ≡ true
+  unfolding unpolled
+  passes i w p = ap₂ _&&_ (ap not p) (lt-ltb 0 (getD ws i 0) w)
 
   -- where no unpolled callback waits, a poll finds whoever waits
   found : (j : ℕ) → j < t .count → (timer ≤ kindOf t j) × (kindOf t j ≤ client) → 0 < getD ws j 0 → foremost t unpolled ≡ 0
@@ -81,16 +89,19 @@ module _ (t : Table) (ws : List ℕ) where
             (a .0, ltb-true 0 (getD ws j 0) (b .1), λ p. absurd (never-both (isPolled t j) p (not-true (isPolled t j) (b .0))))
             );
         some = λ k j l h. omega arith;
+        urgent = λ k u j l h p q d. foremost-first t unpolled u l (passes u h p) j d (k u l .0) (k u l .1) (e ∙ q);
       }
       go zero e (suc i) f = record {
         kept = good;
         waiting = λ j q. (let a = foremost-hit t (has c) j (f ∙ q) in (a .0, good j (a .1) .1, λ p. a .1));
         some = λ k j l h. omega arith;
+        urgent = λ k u j l h p q d. absurd (foremost-some t unpolled u l (passes u h p) (k u l .0) (k u l .1) e);
       }
       go zero e zero f = record {
         kept = gathered-cached;
         waiting = λ j q. (let a = foremost-hit t (has (gatheredOf t ws)) j q in (a .0, gathered-cached j (a .1) .1, λ p. a .1));
         some = λ k j l h. found j l (k j l) h e (isPolled t j) refl;
+        urgent = λ k u j l h p q d. absurd (foremost-some t unpolled u l (passes u h p) (k u l .0) (k u l .1) e);
       }
 
 -- ---- edition 2
