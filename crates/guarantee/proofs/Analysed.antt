@@ -27,7 +27,7 @@ use Rattle.windows.proofs.WindowLaws.{window-settles, bound-covers}
 use Rattle.windows.proofs.TableLaws.{sound-rising}
 use Rattle.sheet.proofs.Accepted.{analysed-read, analysed-sheet, some-window, few-arrivals}
 use Rattle.chains.specs.Chains.{headOf}
-use Rattle.windows.specs.Bounds.{arrivalsOf, costOf, supplyOf, windowOf, boundOf}
+use Rattle.windows.specs.Bounds.{arrivalsOf, costOf, supplyOf, windowOf, boundOfAll}
 
 pub record Analysed (t : Table) : Type 0 where
   -- a table that the reader gives, which no tick refuses with 29
@@ -38,7 +38,7 @@ pub record Analysed (t : Table) : Type 0 where
   pub supplied : demand (t .count) (costOf t) (λ i. arrivalsOf t i (windowOf t)) + 0 ≤ supplyOf t (windowOf t)
   pub small : (i : ℕ) → i < t .count → isHead t i ≡ true → arrivalsOf t i (windowOf t) ≤ mostWaiting
   -- and bounds that cover every offset
-  pub covers : (i : ℕ) → i < t .count → Covers (t .count) (costOf t) (supplyOf t) 0 (limit (arrivalsOf t) i) (windowOf t) (boundOf t i)
+  pub covers : (i : ℕ) → i < t .count → Covers (t .count) (costOf t) (supplyOf t) 0 (limit (arrivalsOf t) i) (windowOf t) (boundOfAll t i)
 
 module _ (t : Table) (so : Sound t) where
   pub chains : Chains (t .count) (linked t) (headOf t)
@@ -51,12 +51,12 @@ module _ (t : Table) (so : Sound t) where
 -- ---- bytes that the analyser accepts
 
 pub analysed : (b : List ℕ) (k : ℕ) → (analysisFault b k) .number ≡ 0 → Analysed (tableAt b)
-unfolding windowOf boundOf
+unfolding windowOf boundOfAll
 analysed b k ok =
     let t : Table = tableAt b in
     let so : Sound (tableAt b) = read-sound b (analysed-read b k ok) in
     let some : windowOf (tableAt b) ≢ 0 = some-window (tableAt b) (analysed-sheet b k ok) in
-    let w = window-settles (t .count) (arrivalsOf t) (costOf t) (supplyOf t) (horizonOf t) some in
+    let w = window-settles (t .count) (arrivalsOf t) (costOf t) (supplyOf t) 0 (horizonOf t) some in
     record {
       sound = so;
       faultless = read-faultless b (analysed-read b k ok);
@@ -64,7 +64,7 @@ analysed b k ok =
       supplied = omega (arith, w .2);
       small = few-arrivals t (analysed-sheet b k ok);
       covers = λ i l A h. (
-          let c = bound-covers (t .count) (arrivalsOf t) (costOf t) (supplyOf t) (horizonOf t) (sound-rising t so) i A h in
+          let c = bound-covers (t .count) (arrivalsOf t) (costOf t) (supplyOf t) 0 (horizonOf t) (sound-rising t so) i A h in
           (c .0, omega (arith, c .1), c .2)
           );
     }

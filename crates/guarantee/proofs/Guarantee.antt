@@ -19,7 +19,7 @@ use Rattle.guarantee.specs.Within.{WithinCurves}
 use Rattle.guarantee.specs.Claim.{Guaranteed, Guarantee}
 use Rattle.guarantee.proofs.Analysed.{Analysed, analysed}
 use Rattle.guarantee.proofs.Conclusions
-use Rattle.windows.specs.Bounds.{boundOf}
+use Rattle.windows.specs.Bounds.{boundOfAll}
 
 -- a start that is not refused gives the fresh state of the table
 started-fresh : (b : List ℕ) → (readFault b) .number ≡ 0 → (startOf b) .machine ≡ fresh (tableAt b)
@@ -31,7 +31,7 @@ guaranteed : (b row : List ℕ) (h : List Tick) → (analysisFault b (length row
 guaranteed b row h f short w = record {
   answered = Conclusions.answers t an h short w;
   started = Conclusions.starts-late t an h short w;
-  finished = λ i k v l x end. rw (analysed-at b row f i l) (Conclusions.in-time t an h short w i k v (boundOf t i) l (an .covers i l) x (rw (analysed-at b row f i l) at end));
+  finished = λ i k v l x end. rw (analysed-at b row f i l) (Conclusions.in-time t an h short w i k v (boundOfAll t i) l (an .covers i l) x (rw (analysed-at b row f i l) at end));
 }
   where
     t : Table

@@ -29,7 +29,7 @@ use Rattle.link_rules.specs.LinkRules.{arrivalsFault, linksFault}
 use Rattle.rules.specs.Rules.{headFault, supplyFault, entriesFault, unusedFault, recordFault, recordsFrom, bodyFault, faultOf}
 use Rattle.reader.specs.Format.{recordAt, spareAt, tableAt, sparesAt, wholeFault, readFault, readOf}
 use Rattle.windows.specs.Window.{covered, coveredFor, window, finish, bound}
-use Rattle.windows.specs.Bounds.{arrivalsOf, costOf, supplyOf, windowOf, boundOf}
+use Rattle.windows.specs.Bounds.{arrivalsOf, costOf, supplyOf, windowOf, boundOfAll}
 use Rattle.sheet.specs.Sheet.{tooManyAt, sheetFault, analysisFault, boundsTo, rowOf}
 use Rattle.queues.specs.Queues.{arrivedTo, arrived, counted, fullWith}
 use Rattle.turns.specs.Choosing.{polled, gatheredOf, choose}
@@ -73,7 +73,7 @@ pub record Computed (c : Case) : Type 0 where
 
 -- all of it by computation, of each
 pub computed : Computed one × Computed two × Computed delayed
-unfolding has withBit withoutBit gather countOf numbers run zeros fieldsAt fieldBytes over sum least largest every some ceiling arrivals cost supply delayedSupply limit horizonOf walk linked named isHead onLoop nextAfter foreign foremostFrom feeder headFrom headOf arrivalsFault linksFault headFault supplyFault entriesFault unusedFault recordFault recordsFrom bodyFault faultOf recordAt spareAt placed tableAt sparesAt wholeFault readFault readOf covered coveredFor window finish bound arrivalsOf costOf supplyOf windowOf boundOf tooManyAt sheetFault analysisFault boundsTo rowOf arrivedTo arrived counted fullWith polled gatheredOf choose turnOf stepOf tableFault beyondWrong countWrong cacheWrong slotWrong runWrong fresh faulty unsupplied instanceAt left served effect full tickFault refused tickOf startOf results tickAt resultAt completesAt releasesAt releasedBy activatedAt activations activation startsAt completions completion one two delayed everyWindow arrivalsHold supplyHolds costsHold headsHold offerHolds withinTest
+unfolding has withBit withoutBit gather countOf numbers run zeros fieldsAt fieldBytes over sum least largest every some ceiling arrivals cost supply delayedSupply limit horizonOf walk linked named isHead onLoop nextAfter foreign foremostFrom feeder headFrom headOf arrivalsFault linksFault headFault supplyFault entriesFault unusedFault recordFault recordsFrom bodyFault faultOf recordAt spareAt placed tableAt sparesAt wholeFault readFault readOf covered coveredFor window finish bound arrivalsOf costOf supplyOf windowOf boundOfAll tooManyAt sheetFault analysisFault boundsTo rowOf arrivedTo arrived counted fullWith polled gatheredOf choose turnOf stepOf tableFault beyondWrong countWrong cacheWrong slotWrong runWrong fresh faulty unsupplied instanceAt left served effect full tickFault refused tickOf startOf results tickAt resultAt completesAt releasesAt releasedBy activatedAt activations activation startsAt completions completion one two delayed everyWindow arrivalsHold supplyHolds costsHold headsHold offerHolds withinTest
 computed = (
   record { replied = refl; accepted = refl; written = refl; within = refl; short = tt; known = tt; activated = (tt, refl); reached = tt; meets = (tt, refl) },
   record { replied = refl; accepted = refl; written = refl; within = refl; short = tt; known = tt; activated = (tt, refl); reached = tt; meets = (tt, refl) },

@@ -3,7 +3,7 @@
 -- rest p h d, what is left of a search of 1 to h at d: rest-start, rest-end, rest-hit, rest-miss, rest-skip.
 -- lowest: lowest-hit, lowest-first, lowest-some, lowest-none, lowest-le, lowest-is, lowest-never, lowest-same.
 -- restSlots p n i, what is left of a search of the slots below n at i: slots-end, slots-hit, slots-miss.
--- largest: largest-le, largest-upper, largest-more.
+-- largest: largest-le, largest-upper, largest-hit, largest-more.
 use mathlib.Core.Path.{_≡_, refl, ap, ap₂, sym, _∙_, subst}
 use mathlib.Core.Logic.{_⊎_, inl, inr, _≢_}
 use mathlib.Core.Bool.{Bool, true, false}
@@ -215,6 +215,17 @@ module _ (f : ℕ → ℕ) where
   unfolding largest
   largest-upper b zero h = omega arith
   largest-upper b (suc n) h = omega (arith, largest-upper b n (λ i l. h i (omega arith)), h n (omega arith))
+
+  -- a largest over 0 is one of them
+  pub largest-hit : (n : ℕ) → 0 < largest n f → (i : ℕ) × (i < n) × (f i ≡ largest n f)
+  unfolding largest
+  largest-hit zero h = absurd (omega arith)
+  largest-hit (suc n) h = go (le-or-lt (largest n f) (f n)) (largest-hit n)
+    where
+      go : (largest n f ≤ f n) ⊎ (f n < largest n f) → (0 < largest n f → (i : ℕ) × (i < n) × (f i ≡ largest n f))
+          → (i : ℕ) × (i < suc n) × (f i ≡ max (largest n f) (f n))
+      go (inl l) r = (n, le-refl _, omega arith)
+      go (inr l) r = (let x = r (omega arith) in (x .0, omega (arith, x .1), omega (arith, x .2)))
 
   -- one more of them, as a loop adds it
   pub largest-more : (n : ℕ) → max (largest n f) (f n) ≡ largest (n + 1) f

@@ -1,6 +1,7 @@
 -- Laws of sums over the numbers below n, and two searches over them.
 -- le-or-lt, mono-upto, one-further: the order, functions that do not fall, what holds below n and at n. all-or-one: all stay within, or one does not.
--- sum-le, sum-lt, sum-add, sum-same: two sums compared, added, equal. sum-none, sum-part, sum-more: a sum of nothing, one of its terms, one term more.
+-- sum-le, sum-gap, sum-lt, sum-add, sum-same: two sums compared, added, equal. sum-none, sum-one, sum-part, sum-more: a sum of nothing, one
+-- of a single term, one of its terms, one term more.
 -- given-le: what is given or not. hit-self, hit-other, hit-none, hit-le, sum-hit: an index that is that of a slot, and that summed over the slots.
 use mathlib.Core.Path.{_≡_, refl, subst, sym, ap, _∙_}
 use mathlib.Core.Logic.{_⊎_, inl, inr, _≢_}
@@ -50,17 +51,21 @@ module _ (f g : ℕ → ℕ) where
   sum-le zero h = omega arith
   sum-le (suc n) h = omega (arith, sum-le n (λ i l. h i (omega arith)), h n (omega arith))
 
-  pub sum-lt : (n j : ℕ) → j < n → f j < g j → ((i : ℕ) → i < n → f i ≤ g i) → sum n f < sum n g
+  -- where g exceeds f by x in one place, its sum does so too
+  pub sum-gap : (x n j : ℕ) → j < n → f j + x ≤ g j → ((i : ℕ) → i < n → f i ≤ g i) → sum n f + x ≤ sum n g
   unfolding sum
-  sum-lt zero j l s h = omega arith
-  sum-lt (suc n) j l s h = go (le-or-lt n j) (λ m. sum-lt n j m s (λ i k. h i (omega arith)))
+  sum-gap x zero j l s h = absurd (omega arith)
+  sum-gap x (suc n) j l s h = go (le-or-lt n j) (λ m. sum-gap x n j m s (λ i k. h i (omega arith)))
     where
-      go : (n ≤ j) ⊎ (j < n) → (j < n → sum n f < sum n g) → sum n f + f n < sum n g + g n
-      go (inl m) r = omega (arith, sum-le n (λ i k. h i (omega arith)), subst (λ (x : ℕ). f x < g x) last s)
+      go : (n ≤ j) ⊎ (j < n) → (j < n → sum n f + x ≤ sum n g) → sum n f + f n + x ≤ sum n g + g n
+      go (inl m) r = omega (arith, sum-le n (λ i k. h i (omega arith)), subst (λ (y : ℕ). f y + x ≤ g y) last s)
         where
           last : j ≡ n
           last = omega arith
       go (inr m) r = omega (arith, r m, h n (omega arith))
+
+  pub sum-lt : (n j : ℕ) → j < n → f j < g j → ((i : ℕ) → i < n → f i ≤ g i) → sum n f < sum n g
+  sum-lt n j l s h = omega (arith, sum-gap 1 n j l (omega arith) h)
 
   pub sum-add : (n : ℕ) → sum n (λ i. f i + g i) ≡ sum n f + sum n g
   unfolding sum
@@ -94,6 +99,16 @@ module _ (f : ℕ → ℕ) where
   pub sum-more : (n : ℕ) → sum n f + f n ≡ sum (n + 1) f
   unfolding sum
   sum-more n = ap (λ (k : ℕ). sum k f) (sym (add-one n))
+
+  -- where all terms but one are 0, it is that one
+  pub sum-one : (n j : ℕ) → j < n → ((i : ℕ) → i < n → i ≢ j → f i ≡ 0) → sum n f ≡ f j
+  unfolding sum
+  sum-one zero j l h = absurd (omega arith)
+  sum-one (suc n) j l h = go (ℕ-discrete n j) (λ m. sum-one n j m (λ i k. h i (omega arith)))
+    where
+      go : Dec (n ≡ j) → (j < n → sum n f ≡ f j) → sum n f + f n ≡ f j
+      go (yes e) r = omega (arith, sum-none n (λ i k. h i (omega arith) (λ q. omega arith)), ap f e)
+      go (no e) r = omega (arith, r (omega arith), h n (omega arith) e)
 
   -- a term is within the sum
   pub sum-part : (n i : ℕ) → i < n → f i ≤ sum n f

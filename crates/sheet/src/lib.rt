@@ -64,7 +64,7 @@ fn write_bounds(t: Table, heads: [u8; 16], window: u32, row: &mut [u16])
     let n = t.count as usize;
     let mut i: usize = 0;
     while i < n {
-        row[i] = windows::bound(t, heads, i, window) as u16;
+        row[i] = levels::bound_of_all(t, heads, i, window) as u16;
         i += 1;
     }
 }
@@ -88,7 +88,7 @@ fn sheet_of(t: Table, row: &mut [u16]) -> Sheet
     ensures { λ r. ⌜ (r ≡ tableSheet t) × (now (row .exit) ≡ tableRow t (now (row .entry))) ⌝ }
 {
     let heads = windows::heads_of(t);
-    let window = windows::window(t, heads, table::horizon(t) as u32);
+    let window = levels::window(t, heads);
     if window == 0 {
         return refused(NO_WINDOW, 0);
     }

@@ -1,25 +1,30 @@
--- Laws of the analyser's parts: the head of a slot (head-within, head-spaced), its arrivals and work by its head (arrivals-of, work-of), the demand of all but one slot as a loop adds it (but-skip, but-add),
--- and what that demand makes of the window's (demand-all) and of an offset's (demand-own).
+-- Laws of the analyser's parts: the head of a slot (head-within, head-spaced), its arrivals and work by its head (arrivals-of, work-of), who is charged in a level (below-none, member-all),
+-- its demand as a loop adds it (in-skip, in-add), and what that demand makes of the window's (demand-is) and of an offset's (demand-own).
 use mathlib.Core.Path.{_≡_, refl, sym, ap, subst, _∙_}
 use mathlib.Core.Logic.{_⊎_, inl, inr, _≢_}
+use mathlib.Core.Bool.{Bool, true, false, not}
 use mathlib.Core.List.{List}
 use Prim.Native.Nat.{ℕ, zero, suc, _+_, _≤_, _<_}
 use native.Mathlib.Nat.{eq-or-lt-of-le, le-of-suc-le-suc}
 use native.Mathlib.Omega.{arith}
 use lib.ListN.{getD}
-use borrow.Author.Tests.{eq-eqb, ne-eqb}
-use Rattle.ranges.specs.Sum.{sum}
+use Rattle.masks.specs.Mask.{has}
+use Rattle.masks.proofs.Slots.{has-with-same, has-with-other}
+use Rattle.ranges.specs.Sum.{sum, given}
 use Rattle.curves.specs.Demand.{demand, limit}
 use Rattle.ranges.proofs.SumLaws.{sum-same, sum-more}
 use Rattle.curves.proofs.DemandLaws.{limit-own, limit-other}
+use Rattle.curves.proofs.CostLaws.{cost-zero}
 use Rattle.table.specs.declared.Table.{Table}
 use Rattle.numbers.specs.Numbers.{places}
-use Rattle.table.specs.Values.{callbackAt}
+use Rattle.table.specs.Values.{callbackAt, entriesOf}
+use Rattle.rules.specs.Parts.{Sound}
 use Rattle.rules.proofs.Heads.{head-lt}
-use Rattle.windows.proofs.TableLaws.{spaced}
+use Rattle.windows.proofs.TableLaws.{spaced, costed}
 use Rattle.chains.specs.Chains.{headOf}
-use Rattle.windows.specs.Bounds.{arrivalsOf, costOf}
-use Rattle.windows.specs.Parts.{headArrivals, workOf, workBut, demandBut, Spaced, Headed}
+use Rattle.windows.specs.declared.Level.{Level}
+use Rattle.windows.specs.Bounds.{arrivalsOf, costOf, arrivalsIn}
+use Rattle.windows.specs.Parts.{headArrivals, workOf, workIn, demandIn, but, Spaced, Headed}
 
 -- the head that is at hand for slot i lies in the table, and its arrivals can be asked for
 module _ (t : Table) (heads : List ℕ) (ready : Headed t heads) (i : ℕ) (below : i < t .count) where
@@ -39,46 +44,60 @@ pub work-of : (t : Table) (i h D : ℕ) → h ≡ headOf t i → workOf (callbac
 unfolding workOf costOf arrivalsOf
 work-of t i h D e = ap (λ (g : ℕ). workOf (callbackAt t i) (callbackAt t g) D) e
 
-module _ (t : Table) (x D : ℕ) where
-  but-own : workBut t x D x ≡ 0
-  unfolding workBut
-  but-own = rw (eq-eqb x x refl, workBut)
+module _ (t : Table) (v : Level) where
+  -- who is below a level is not charged, who is not is charged as in the table
+  pub below-none : (i D : ℕ) → has (v .below) i ≡ true → arrivalsIn t v i D ≡ 0
+  unfolding arrivalsIn
+  below-none i D e = ap (λ (b : Bool). given (not b) (arrivalsOf t i D)) e
 
-  but-other : (j : ℕ) → j ≢ x → workBut t x D j ≡ costOf t j (arrivalsOf t j D)
-  unfolding workBut
-  but-other j p = rw (ne-eqb j x p, workBut)
+  pub member-all : (i D : ℕ) → has (v .below) i ≡ false → arrivalsIn t v i D ≡ arrivalsOf t i D
+  unfolding arrivalsIn
+  member-all i D e = ap (λ (b : Bool). given (not b) (arrivalsOf t i D)) e
 
-  -- slot x adds nothing
-  pub but-skip : (i s : ℕ) → i ≡ x → s ≡ sum i (workBut t x D) → s ≡ sum (i + 1) (workBut t x D)
-  but-skip i s p e = omega (arith, sum-more (workBut t x D) i, ap (workBut t x D) p, but-own)
+  module _ (so : Sound t) where
+    pub skipped : (D i : ℕ) → i < t .count → has (v .below) i ≡ true → workIn t v D i ≡ 0
+    unfolding workIn costOf
+    skipped D i l e = ap (costOf t i) (below-none i D e) ∙ cost-zero (entriesOf (callbackAt t i)) (costed t so i l .listed)
 
-  -- every other adds its work
-  pub but-add : (i s r : ℕ) → i ≢ x → s ≡ sum i (workBut t x D) → r ≡ costOf t i (arrivalsOf t i D) → s + r ≡ sum (i + 1) (workBut t x D)
-  but-add i s r p e f = omega (arith, sum-more (workBut t x D) i, but-other i p)
+    -- who is below adds nothing
+    pub in-skip : (D i s : ℕ) → i < t .count → has (v .below) i ≡ true → s ≡ v .blocking + sum i (workIn t v D) → s ≡ v .blocking + sum (i + 1) (workIn t v D)
+    in-skip D i s l e p = omega (arith, sum-more (workIn t v D) i, skipped D i l e)
 
-  -- where x is no slot, the demand is that of a whole window
-  pub demand-all : t .count ≤ x → demandBut t x D ≡ demand (t .count) (costOf t) (λ i. arrivalsOf t i D)
-  demand-all h = sum-same (workBut t x D) (λ i. costOf t i (arrivalsOf t i D)) (t .count) (λ i l. but-other i (λ e. omega arith))
+    -- every other adds its work
+    pub in-add : (D i s r : ℕ) → has (v .below) i ≡ false → s ≡ v .blocking + sum i (workIn t v D) → r ≡ costOf t i (arrivalsOf t i D)
+        → s + r ≡ v .blocking + sum (i + 1) (workIn t v D)
+    unfolding workIn
+    in-add D i s r e p f = omega (arith, sum-more (workIn t v D) i, ap (costOf t i) (member-all i D e))
 
-  -- with the work of slot x up to offset A, it is the demand of that offset
-  pub demand-own : (A : ℕ) → x < t .count → costOf t x (arrivalsOf t x (suc A)) + demandBut t x D ≡ demand (t .count) (costOf t) (limit (arrivalsOf t) x A D)
+-- a level without slot x, with the work of slot x up to offset A, has the demand of that offset
+module _ (t : Table) (so : Sound t) (v : Level) (x D A : ℕ) (h : x < t .count) (member : has (v .below) x ≡ false) where
+  abbrev charged : ℕ → ℕ
+  charged j = costOf t j (limit (arrivalsIn t v) x A D j)
+
+  own : charged x ≡ costOf t x (arrivalsOf t x (suc A))
+  own = ap (costOf t x) (limit-own (arrivalsIn t v) x A D ∙ member-all t v x (suc A) member)
+
+  other : (j : ℕ) → j ≢ x → workIn t (but v x) D j ≡ charged j
+  unfolding workIn arrivalsIn
+  other j p = ap (λ (b : Bool). costOf t j (given (not b) (arrivalsOf t j D))) (has-with-other (v .below) x j p) ∙ ap (costOf t j) (sym (limit-other (arrivalsIn t v) x A D j p))
+
+  none : workIn t (but v x) D x ≡ 0
+  none = skipped t (but v x) so D x h (has-with-same (v .below) x)
+
+  upto : (n : ℕ) → x < n → costOf t x (arrivalsOf t x (suc A)) + sum n (workIn t (but v x) D) ≡ sum n charged
   unfolding sum
-  demand-own A h = upto (t .count) h
+  upto zero l = absurd (omega arith)
+  upto (suc n) l = go (eq-or-lt-of-le (le-of-suc-le-suc l)) (upto n)
     where
-      charged : ℕ → ℕ
-      charged j = costOf t j (limit (arrivalsOf t) x A D j)
+      go : (x ≡ n) ⊎ (x < n) → (x < n → costOf t x (arrivalsOf t x (suc A)) + sum n (workIn t (but v x) D) ≡ sum n charged)
+          → costOf t x (arrivalsOf t x (suc A)) + (sum n (workIn t (but v x) D) + workIn t (but v x) D n) ≡ sum n charged + charged n
+      go (inl p) w = omega (arith, sum-same (workIn t (but v x) D) charged n (λ j k. other j (λ e. omega arith)), ap (workIn t (but v x) D) p, none, ap charged p, own)
+      go (inr k) w = omega (arith, w k, other n (λ e. omega arith))
 
-      own : charged x ≡ costOf t x (arrivalsOf t x (suc A))
-      own = ap (costOf t x) (limit-own (arrivalsOf t) x A D)
+  pub demand-own : costOf t x (arrivalsOf t x (suc A)) + demandIn t (but v x) D ≡ v .blocking + demand (t .count) (costOf t) (limit (arrivalsIn t v) x A D)
+  demand-own = omega (arith, upto (t .count) h)
 
-      other : (j : ℕ) → j ≢ x → workBut t x D j ≡ charged j
-      other j p = but-other j p ∙ ap (costOf t j) (sym (limit-other (arrivalsOf t) x A D j p))
-
-      upto : (n : ℕ) → x < n → costOf t x (arrivalsOf t x (suc A)) + sum n (workBut t x D) ≡ sum n charged
-      upto zero l = absurd (omega arith)
-      upto (suc n) l = go (eq-or-lt-of-le (le-of-suc-le-suc l)) (upto n)
-        where
-          go : (x ≡ n) ⊎ (x < n) → (x < n → costOf t x (arrivalsOf t x (suc A)) + sum n (workBut t x D) ≡ sum n charged)
-              → costOf t x (arrivalsOf t x (suc A)) + (sum n (workBut t x D) + workBut t x D n) ≡ sum n charged + charged n
-          go (inl p) w = omega (arith, sum-same (workBut t x D) charged n (λ j k. other j (λ e. omega arith)), ap (workBut t x D) p, but-own, ap charged p, own)
-          go (inr k) w = omega (arith, w k, other n (λ e. omega arith))
+-- the demand of a level is that of its window
+pub demand-is : (t : Table) (v : Level) (D : ℕ) → demandIn t v D ≡ v .blocking + demand (t .count) (costOf t) (λ i. arrivalsIn t v i D)
+unfolding workIn
+demand-is t v D = refl

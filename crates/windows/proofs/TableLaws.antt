@@ -1,8 +1,8 @@
--- What a table that the reader accepts ensures of its curves: spaced, costed, sound-rising, sound-inverse. head-own: whether a slot leads itself.
+-- What a table that the reader accepts ensures of its curves: spaced, costed, sound-rising, level-rising, sound-inverse. head-own: whether a slot leads itself.
 -- horizon-in: the horizon is a length that curves can be asked for. heads-more: the heads of the slots, as a loop writes them.
 use mathlib.Core.Path.{_≡_, refl, sym, ap, subst, _∙_}
 use mathlib.Core.Logic.{_⊎_, inl, inr}
-use mathlib.Core.Bool.{Bool, true, false}
+use mathlib.Core.Bool.{Bool, true, false, not}
 use mathlib.Core.List.{List}
 use Prim.Native.Nat.{ℕ, _+_, _≤_, _<_}
 use native.Mathlib.Nat.{le-refl, eq-or-lt-of-le, le-of-suc-le-suc}
@@ -12,6 +12,8 @@ use lib.Dec.{eqb}
 use lib.ListN.{length, getD, set}
 use lib.Seq.{getD-set-same, getD-set-other}
 use borrow.Author.Tests.{eq-eqb, ne-eqb}
+use Rattle.masks.specs.Mask.{has}
+use Rattle.ranges.specs.Sum.{given}
 use Rattle.curves.specs.Parts.{Rising, Inverse}
 use Rattle.ranges.proofs.EveryLaws.{never-both}
 use Rattle.curves.proofs.ArrivalsLaws.{arrivals-mono}
@@ -25,7 +27,8 @@ use Rattle.table.specs.Links.{isHead}
 use Rattle.rules.specs.Parts.{Sound}
 use Rattle.rules.proofs.Heads.{head-lt, head-self, head-is-head}
 use Rattle.chains.specs.Chains.{headOf}
-use Rattle.windows.specs.Bounds.{arrivalsOf, costOf, supplyOf}
+use Rattle.windows.specs.declared.Level.{Level}
+use Rattle.windows.specs.Bounds.{arrivalsOf, costOf, supplyOf, arrivalsIn}
 use Rattle.windows.specs.Parts.{reachOf, Spaced, Costed}
 
 module _ (t : Table) (so : Sound t) where
@@ -58,6 +61,15 @@ module _ (t : Table) (so : Sound t) where
     a-up = λ i d l. let c : Callback = callbackAt t (headOf t i) in arrivals-mono (c .period) (c .jitter) (c .distance) (spaced i l .period-some) (spaced i l .distance-some) d;
     e-up = λ i m l. cost-up (entriesOf (callbackAt t i)) (costed i l .listed) (costed i l .rising) m;
   }
+
+  -- so it is in a level
+  pub level-rising : (v : Level) → Rising (t .count) (arrivalsIn t v) (costOf t)
+  unfolding arrivalsIn
+  level-rising v = record { a-up = λ i d l. rises (not (has (v .below) i)) (sound-rising .a-up i d l); e-up = sound-rising .e-up }
+    where
+      rises : (b : Bool) {x y : ℕ} → x ≤ y → given b x ≤ given b y
+      rises true l = l
+      rises false l = le-refl 0
 
   -- its supply has an inverse
   pub sound-inverse : (most : ℕ) → Inverse most (supplyOf t) (reachOf t most)

@@ -1,22 +1,23 @@
 -- What the search's inner functions compute, and what they may assume of a table without faults.
 use mathlib.Core.Path.{_≡_}
-use mathlib.Core.Bool.{Bool, true, false}
+use mathlib.Core.Bool.{Bool}
 use mathlib.Core.List.{List}
-use Prim.Native.Nat.{ℕ, _*_, _≤_, _<_}
-use lib.Dec.{eqb}
+use Prim.Native.Nat.{ℕ, _+_, _*_, _≤_, _<_}
 use lib.ListN.{length, getD}
 use Rattle.ranges.specs.Sum.{sum}
-use Rattle.numbers.specs.Numbers.{entryPlaces, longest}
+use Rattle.masks.specs.Mask.{withBit}
+use Rattle.numbers.specs.Numbers.{places, entryPlaces, longest}
 use Rattle.curves.specs.Arrivals.{arrivals}
 use Rattle.curves.specs.Cost.{cost}
 use Rattle.curves.specs.Parts.{RisingEntries, reach, reachUpTo}
 use Rattle.table.specs.declared.Callback.{Callback}
 use Rattle.table.specs.declared.Table.{Table}
-use Rattle.table.specs.Values.{entriesOf, horizonOf}
+use Rattle.table.specs.Values.{entriesOf}
 use Rattle.chains.specs.Chains.{headOf}
 use Rattle.rules.specs.Parts.{Sound}
+use Rattle.windows.specs.declared.Level.{Level}
 use Rattle.windows.specs.Window.{covered, finish}
-use Rattle.windows.specs.Bounds.{arrivalsOf, costOf, supplyOf}
+use Rattle.windows.specs.Bounds.{arrivalsIn, costOf, supplyOf}
 
 -- a of the head g
 abbrev pub headArrivals : Callback → ℕ → ℕ
@@ -30,20 +31,28 @@ workOf c g D = cost (entriesOf c) (headArrivals g D)
 abbrev pub mostWork : ℕ
 mostWork = 65535 * longest
 
--- what slot j adds to the demand of all callbacks but slot x
-unfoldable pub workBut : Table → ℕ → ℕ → ℕ → ℕ
-workBut t x D j = elim (eqb j x) [ true ↦ 0 | false ↦ costOf t j (arrivalsOf t j D) ]
+-- what slot j adds to the demand of a level in D ticks
+unfoldable pub workIn : Table → Level → ℕ → ℕ → ℕ
+workIn t v D j = costOf t j (arrivalsIn t v j D)
 
--- the demand in D ticks of all callbacks but slot x, so of all where x is none of them
-abbrev pub demandBut : Table → ℕ → ℕ → ℕ
-demandBut t x D = sum (t .count) (workBut t x D)
+-- that demand, on top of what is taken from the level
+abbrev pub demandIn : Table → Level → ℕ → ℕ
+demandIn t v D = v .blocking + sum (t .count) (workIn t v D)
 
--- the test of the window, and F(A) of slot x, of a table
-unfoldable pub coveredOf : Table → ℕ → Bool
-coveredOf t = covered (t .count) (arrivalsOf t) (costOf t) (supplyOf t)
+-- it cannot be more than this in a window up to the longest
+abbrev pub mostDemand : ℕ
+mostDemand = 65535 + places * mostWork
 
-unfoldable pub finishOf : Table → ℕ → ℕ → ℕ
-finishOf t = finish (t .count) (arrivalsOf t) (costOf t) (supplyOf t) (horizonOf t)
+-- the level with one slot less, which is not charged as the rest are
+abbrev pub but : Level → ℕ → Level
+but v x = record { below = withBit (v .below) x; blocking = v .blocking; horizon = v .horizon }
+
+-- the test of a level's window, and F(A) of slot x in it
+unfoldable pub coveredIn : Table → Level → ℕ → Bool
+coveredIn t v = covered (t .count) (arrivalsIn t v) (costOf t) (supplyOf t) (v .blocking)
+
+unfoldable pub finishIn : Table → Level → ℕ → ℕ → ℕ
+finishIn t v = finish (t .count) (arrivalsIn t v) (costOf t) (supplyOf t) (v .blocking) (v .horizon)
 
 -- the inverse of the table's supply, of lengths up to `most`
 unfoldable pub reachOf : Table → ℕ → ℕ → ℕ

@@ -1,18 +1,19 @@
 -- Window, finish and bound over the curves of n callbacks: arrivals a, costs e, supply s, horizon H (document 01, 'The sheet').
+-- b units go to others first: 0 in document 01, the B of a timer in document 02, U5.
 use mathlib.Core.Bool.{Bool}
-use Prim.Native.Nat.{ℕ, _-_}
+use Prim.Native.Nat.{ℕ, _+_, _-_}
 use lib.Dec.{leb}
 use Rattle.ranges.specs.Least.{least, largest}
 use Rattle.curves.specs.Demand.{demand, limit}
 
-module _ (n : ℕ) (a e : ℕ → ℕ → ℕ) (s : ℕ → ℕ) where
-  -- the first inequality: what all callbacks need in a length is supplied in it
+module _ (n : ℕ) (a e : ℕ → ℕ → ℕ) (s : ℕ → ℕ) (b : ℕ) where
+  -- the first inequality: what others take, and all callbacks need in a length, is supplied in it
   unfoldable pub covered : ℕ → Bool
-  covered D = leb (demand n e (λ i. a i D)) (s D)
+  covered D = leb (b + demand n e (λ i. a i D)) (s D)
 
-  -- the second: what x needs for its activations up to offset A, and the others in the whole length, is supplied in it
+  -- the second: the same, but x needs what its activations up to offset A cost
   unfoldable pub coveredFor : ℕ → ℕ → ℕ → Bool
-  coveredFor x A D = leb (demand n e (limit a x A D)) (s D)
+  coveredFor x A D = leb (b + demand n e (limit a x A D)) (s D)
 
   module _ (H : ℕ) where
     -- W: the least length from 1 to the horizon that meets the first; 0 where there is none

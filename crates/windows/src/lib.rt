@@ -1,15 +1,24 @@
-// The busy window of a table and the bound of each callback (document 01, 'The sheet').
+// The busy window of a level of a table, and the bound of a callback in it: of all callbacks (document 01, 'The sheet'), or of a timer and
+// those above it (document 02, U5).
 // The functions ask for a table without faults, with the head of each slot's chain (Headed of specs/Parts.antt).
 
 use table::Callback;
 use table::Table;
 ghost use mathlib.Core.Path.{_≡_};
 ghost use Prim.Native.Nat.{ℕ, _<_, _≤_, _*_, _-_, max};
-ghost use Rattle.numbers.specs.Numbers.{places, longest};
-ghost use Rattle.table.specs.Values.{horizonOf};
+ghost use mathlib.Core.Bool.{false};
+ghost use Rattle.masks.specs.Mask.{has};
+ghost use Rattle.numbers.specs.Numbers.{longest};
 ghost use Rattle.rules.specs.Parts.{Sound};
-ghost use Rattle.windows.specs.Bounds.{windowOf, boundOf};
-ghost use Rattle.windows.specs.Parts.{mostWork, headArrivals, workOf, demandBut, reachOf, Spaced, Costed, Headed};
+ghost use Rattle.windows.specs.Bounds.{windowIn, boundIn};
+ghost use Rattle.windows.specs.Parts.{mostWork, mostDemand, headArrivals, workOf, demandIn, but, reachOf, Spaced, Costed, Headed};
+
+// Some callbacks of a table: all but those in `below`. These may take `blocking` units from the others; lengths are searched up to `horizon`.
+pub struct Level {
+    pub below: u16,
+    pub blocking: u16,
+    pub horizon: u32,
+}
 
 // The head of each slot's chain, for the slots below count.
 pub fn heads_of(t: Table) -> [u8; 16]
@@ -49,16 +58,16 @@ fn work(c: Callback, head: Callback, length: u32) -> u64
     curves::cost(entries, c.used, count)
 }
 
-// The demand of all callbacks but slot x in a window of `length` ticks: that of all, where x is none of them.
-fn demand_but(t: Table, heads: [u8; 16], x: usize, length: u32) -> u64
+// The demand of a level in a window of `length` ticks, on top of what is taken from it.
+fn demand(t: Table, heads: [u8; 16], level: Level, length: u32) -> u64
     requires { ⌜ Headed t heads × (length ≤ longest) ⌝ }
-    ensures { λ r. ⌜ (r ≡ demandBut t x length) × (r ≤ places * mostWork) ⌝ }
+    ensures { λ r. ⌜ (r ≡ demandIn t level length) × (r ≤ mostDemand) ⌝ }
 {
     let n = t.count as usize;
-    let mut sum: u64 = 0;
+    let mut sum: u64 = level.blocking as u64;
     let mut i: usize = 0;
     while i < n {
-        if i != x {
+        if !masks::test_slot(level.below, i as u16) {
             let head = heads[i] as usize;
             let c = t.callbacks[i];
             let g = t.callbacks[head];
@@ -67,6 +76,16 @@ fn demand_but(t: Table, heads: [u8; 16], x: usize, length: u32) -> u64
         i += 1;
     }
     sum
+}
+
+// The same of a level without slot x, which is charged apart.
+fn demand_but(t: Table, heads: [u8; 16], level: Level, x: usize, length: u32) -> u64
+    requires { ⌜ Headed t heads × (length ≤ longest) × (x < t .count) ⌝ }
+    ensures { λ r. ⌜ (r ≡ demandIn t (but level x) length) × (r ≤ mostDemand) ⌝ }
+{
+    let mut others = level;
+    others.below = masks::set_slot(others.below, x as u16);
+    demand(t, heads, others, length)
 }
 
 // The least length whose supply is at least a demand; for a demand above `most` the length past `most`.
@@ -83,17 +102,17 @@ fn reach(t: Table, most: u32, demand: u64) -> u32
     )
 }
 
-// W: the least length in 1 to the horizon whose supply covers the demand of all callbacks; 0 where there is none.
+// The least length in 1 to the horizon whose supply covers the demand of a level; 0 where there is none.
 // Demand does not fall as the length grows: where one is not covered, none is before that which supplies its demand, and there the search goes on.
-pub fn window(t: Table, heads: [u8; 16], horizon: u32) -> u32
-    requires { ⌜ Headed t heads × (horizon ≡ horizonOf t) × (horizon ≤ longest) ⌝ }
-    ensures { λ r. ⌜ (r ≡ windowOf t) × (r ≤ longest) ⌝ }
+pub fn window(t: Table, heads: [u8; 16], level: Level) -> u32
+    requires { ⌜ Headed t heads × (level .horizon ≤ longest) ⌝ }
+    ensures { λ r. ⌜ (r ≡ windowIn t level) × (r ≤ longest) ⌝ }
 {
-    let n = t.count as usize;
+    let horizon = level.horizon;
     let mut length: u32 = 1;
     while length <= horizon {
-        let demand = demand_but(t, heads, n, length);
-        let next = reach(t, horizon, demand);
+        let needed = demand(t, heads, level, length);
+        let next = reach(t, horizon, needed);
         if next <= length {
             return length;
         }
@@ -115,18 +134,18 @@ fn worse(worst: u32, finish: u32, offset: u32) -> u32
     finish - offset
 }
 
-// The bound of slot x: the largest F(A) - A over the offsets A below the window. F does not fall, so that each search goes on from
-// the length that the offset before found. Where no instance of x is added, F is that of the offset before, and nothing is searched.
-pub fn bound(t: Table, heads: [u8; 16], x: usize, window: u32) -> u32
-    requires { ⌜ Headed t heads × (x < t .count) × (window ≡ windowOf t) × (window ≤ longest) ⌝ }
-    ensures { λ r. ⌜ (r ≡ boundOf t x) × (r ≤ longest) ⌝ }
+// The bound of slot x in a level: the largest F(A) - A over the offsets A below its window. F does not fall, so that each search goes on
+// from the length that the offset before found. Where no instance of x is added, F is that of the offset before, and nothing is searched.
+pub fn bound(t: Table, heads: [u8; 16], level: Level, x: usize, window: u32) -> u32
+    requires { ⌜ Headed t heads × (x < t .count) × (has (level .below) x ≡ false) × (window ≡ windowIn t level) × (window ≤ longest) ⌝ }
+    ensures { λ r. ⌜ (r ≡ boundIn t level x) × (r ≤ longest) ⌝ }
 {
     let head = heads[x] as usize;
     let c = t.callbacks[x];
     let g = t.callbacks[head];
     let mut worst: u32 = 0;
     let mut length: u32 = 1;
-    let mut others = demand_but(t, heads, x, length);
+    let mut others = demand_but(t, heads, level, x, length);
     let mut count: u32 = 0;
     let mut offset: u32 = 0;
     while offset < window {
@@ -140,7 +159,7 @@ pub fn bound(t: Table, heads: [u8; 16], x: usize, window: u32) -> u32
                     break length;
                 }
                 length = next;
-                others = demand_but(t, heads, x, length);
+                others = demand_but(t, heads, level, x, length);
             };
             worst = worse(worst, finish, offset);
         }

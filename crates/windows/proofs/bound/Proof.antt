@@ -14,28 +14,28 @@ use Rattle.windows.proofs.PartLaws.{head-within, head-spaced, arrivals-
 use Rattle.windows.proofs.SearchLaws.{finish-in, finish-hit, finish-jump, finish-next, bound-start, bound-skip, bound-is, bound-in}
 use Rattle.windows.proofs.bound.Statement.{statement}
 use Rattle.windows.proofs.bound.Tie as tie
-use Rattle.windows.specs.Bounds.{arrivalsOf, costOf, windowOf}
-use Rattle.windows.specs.Parts.{mostWork, demandBut, finishOf, reachOf}
+use Rattle.windows.specs.Bounds.{arrivalsOf, costOf, windowIn}
+use Rattle.windows.specs.Parts.{mostDemand, demandIn, but, finishIn, reachOf}
 
 abbrev Inv-loop2 : tie.InvT-loop2
-Inv-loop2 x window t heads head c g worst length₀ others₀ count offset charged own length others =
-    (1 ≤ length) × (length ≤ finishOf t x offset) × (others ≡ demandBut t x length) × (others ≤ places * mostWork)
+Inv-loop2 level x window t heads head c g worst length₀ others₀ count offset charged own length others =
+    (1 ≤ length) × (length ≤ finishIn t level x offset) × (others ≡ demandIn t (but level x) length) × (others ≤ mostDemand)
 
 abbrev μ-loop2 : tie.MeasureT-loop2
-μ-loop2 x window t heads head c g worst length₀ others₀ count offset charged own length others = finishOf t x offset - length
+μ-loop2 level x window t heads head c g worst length₀ others₀ count offset charged own length others = finishIn t level x offset - length
 
 abbrev Inv-loop : tie.InvT-loop
-Inv-loop x window t heads head c g worst₀ length₀ others₀ count₀ offset₀ worst length others count offset =
+Inv-loop level x window t heads head c g worst₀ length₀ others₀ count₀ offset₀ worst length others count offset =
     (offset ≤ window)
     × (1 ≤ length)
-    × (offset < windowOf t → length ≤ finishOf t x offset)
-    × (others ≡ demandBut t x length)
-    × (others ≤ places * mostWork)
+    × (offset < windowIn t level → length ≤ finishIn t level x offset)
+    × (others ≡ demandIn t (but level x) length)
+    × (others ≤ mostDemand)
     × (count ≡ arrivalsOf t x offset)
-    × (worst ≡ largest offset (λ A. finishOf t x A - A))
+    × (worst ≡ largest offset (λ A. finishIn t level x A - A))
 
 abbrev μ-loop : tie.MeasureT-loop
-μ-loop x window t heads head c g worst₀ length₀ others₀ count₀ offset₀ worst length others count offset = window - offset
+μ-loop level x window t heads head c g worst₀ length₀ others₀ count₀ offset₀ worst length others count offset = window - offset
 
 abbrev Start : Type 0
 Start = tie.Start Inv-loop2 μ-loop2 Inv-loop μ-loop
@@ -54,8 +54,8 @@ abbrev begun : AtOffset → Start
 begun c = c .before .before .before .before .before
 
 -- an offset of the outer loop is one below the window
-early : (c : AtOffset) → c .before .loop .offset < windowOf (begun c .args .t1)
-early c = omega (arith, c .loop-test .taken, begun c .pre .2)
+early : (c : AtOffset) → c .before .loop .offset < windowIn (begun c .args .t1) (begun c .args .level)
+early c = omega (arith, c .loop-test .taken, begun c .pre .3)
 
 abbrev at-offset : AtLength → AtOffset
 at-offset c = c .before .before .before .before
@@ -68,15 +68,15 @@ offset c = at-offset c .before .loop .offset
 
 -- F of the offset
 abbrev F : AtLength → ℕ
-F c = finishOf (first c .args .t1) (first c .args .x) (offset c)
+F c = finishIn (first c .args .t1) (first c .args .level) (first c .args .x) (offset c)
 
 -- F is no longer than the window
 short : (c : AtLength) → F c ≤ longest
 short c = omega (
   arith,
-  finish-in (first c .args .t1) (first c .args .t2) (first c .pre .0) (first c .args .x) (offset c) (early (at-offset c)) .1,
-  first c .pre .2,
+  finish-in (first c .args .t1) (first c .args .t2) (first c .pre .0) (first c .args .level) (first c .args .x) (offset c) (early (at-offset c)) .1,
   first c .pre .3,
+  first c .pre .4,
 )
 
 -- what the instances of x itself are charged
@@ -87,17 +87,17 @@ abbrev AtJump : Type 0
 AtJump = tie.After-reach Inv-loop2 μ-loop2 Inv-loop μ-loop
 
 -- the jump goes by the window, which is W
-jumped : (c : AtJump) → c .reach .result ≡ reachOf (first (c .before) .args .t1) (windowOf (first (c .before) .args .t1)) (c .before .before .work .result + c .before .loop2 .others)
+jumped : (c : AtJump) → c .reach .result ≡ reachOf (first (c .before) .args .t1) (windowIn (first (c .before) .args .t1) (first (c .before) .args .level)) (c .before .before .work .result + c .before .loop2 .others)
 jumped c =
     let own = c .before .before .work .result + c .before .loop2 .others in
-    c .reach .ensures ∙ ap (λ (w : ℕ). reachOf (first (c .before) .args .t1) w own) (first (c .before) .pre .2)
+    c .reach .ensures ∙ ap (λ (w : ℕ). reachOf (first (c .before) .args .t1) w own) (first (c .before) .pre .3)
 
 -- it ends at F at the latest
 within : (c : AtJump) → c .reach .result ≤ F (c .before)
 within c =
     let at = c .before in
     let start = first at in
-    finish-jump (start .args .t1) (start .args .t2) (start .pre .0) (start .args .x) (offset at) (early (at-offset at)) (start .pre .1) (at .loop2 .length) _ _ _
+    finish-jump (start .args .t1) (start .args .t2) (start .pre .0) (start .args .level) (start .args .x) (offset at) (early (at-offset at)) (start .pre .1) (start .pre .2) (at .loop2 .length) _ _ _
     (at .loop2 .inv .1) (at .loop2 .inv .0) (charged at) (at .loop2 .inv .2) (jumped c)
 
 -- where the loop breaks, the length is F
@@ -105,7 +105,7 @@ found : (c : AtJump) → c .reach .result ≤ c .before .loop2 .length → c .be
 found c l =
     let at = c .before in
     let start = first at in
-    finish-hit (start .args .t1) (start .args .t2) (start .pre .0) (start .args .x) (offset at) (early (at-offset at)) (start .pre .1) (at .loop2 .length) _ _ _
+    finish-hit (start .args .t1) (start .args .t2) (start .pre .0) (start .args .level) (start .args .x) (offset at) (early (at-offset at)) (start .pre .1) (start .pre .2) (at .loop2 .length) _ _ _
     (at .loop2 .inv .1) (at .loop2 .inv .0) (charged at) (at .loop2 .inv .2) (jumped c) l
 
 -- the instances charged at an offset
@@ -118,17 +118,19 @@ counted c =
 -- behind an offset, searched or not, the length is not past its F, and it is among the offsets of which the largest is known
 passed : (c : tie.Joined1 Inv-loop2 μ-loop2 Inv-loop μ-loop)
     → let t = begun (c .before .before) .args .t1 in
+    let level = begun (c .before .before) .args .level in
     let x = begun (c .before .before) .args .x in
     let A = c .before .before .before .loop .offset in
     (1 ≤ c .if1 .length)
-    × (c .if1 .length ≤ finishOf t x A)
-    × (c .if1 .others ≡ demandBut t x (c .if1 .length))
-    × (c .if1 .others ≤ places * mostWork)
+    × (c .if1 .length ≤ finishIn t level x A)
+    × (c .if1 .others ≡ demandIn t (but level x) (c .if1 .length))
+    × (c .if1 .others ≤ mostDemand)
     × (c .if1 .count ≡ arrivalsOf t x (A + 1))
-    × (c .if1 .worst ≡ largest (A + 1) (λ B. finishOf t x B - B))
+    × (c .if1 .worst ≡ largest (A + 1) (λ B. finishIn t level x B - B))
 passed c =
     let start = begun (c .before .before) in
     let t = start .args .t1 in
+    let level = start .args .level in
     let x = start .args .x in
     let loop = c .before .before .before .loop in
     ⊎-elim
@@ -136,19 +138,19 @@ passed c =
     let f = found (record { before = record { before = record { before = record { before = c .before; if1 = w .0 }; work = w .1 }; loop2 = w .2 }; reach = w .3 }) (w .4 .taken) in (
       omega (arith, w .7, w .2 .inv .0),
       omega (arith, w .7, w .2 .inv .1),
-      w .8 ∙ w .2 .inv .2 ∙ ap (demandBut t x) (sym (w .7)),
+      w .8 ∙ w .2 .inv .2 ∙ ap (demandIn t (but level x)) (sym (w .7)),
       omega (arith, w .8, w .2 .inv .3),
       w .9 ∙ counted (c .before),
-      w .6 ∙ w .5 .ensures ∙ ap₂ (λ (a b : ℕ). max a (b - loop .offset)) (loop .inv .6) f ∙ largest-more (λ B. finishOf t x B - B) (loop .offset),
+      w .6 ∙ w .5 .ensures ∙ ap₂ (λ (a b : ℕ). max a (b - loop .offset)) (loop .inv .6) f ∙ largest-more (λ B. finishIn t level x B - B) (loop .offset),
     ))
     (λ w.
     let same = sym (counted (c .before)) ∙ w .0 .left in (
       omega (arith, w .2, loop .inv .1),
       omega (arith, w .2, loop .inv .2 (early (c .before .before))),
-      w .3 ∙ loop .inv .3 ∙ ap (demandBut t x) (sym (w .2)),
+      w .3 ∙ loop .inv .3 ∙ ap (demandIn t (but level x)) (sym (w .2)),
       omega (arith, w .3, loop .inv .4),
       w .4 ∙ sym same,
-      w .1 ∙ bound-skip t (start .args .t2) (start .pre .0) x (loop .offset) _ (start .pre .1) (same ∙ loop .inv .5) (loop .inv .6),
+      w .1 ∙ bound-skip t (start .args .t2) (start .pre .0) level x (loop .offset) _ (start .pre .1) (start .pre .2) (same ∙ loop .inv .5) (loop .inv .6),
     ))
     (c .if1 .came)
 
@@ -168,7 +170,7 @@ element-copy-out-g : tie.Need-element-copy-out-g Inv-loop2 μ-loop2 Inv-loop μ-
 element-copy-out-g c = led (c .before)
 
 demand-but-requires : tie.Need-demand-but-requires Inv-loop2 μ-loop2 Inv-loop μ-loop
-demand-but-requires c κs = (c .before .before .pre .0, omega arith)
+demand-but-requires c κs = (c .before .before .pre .0, omega arith, c .before .before .pre .1)
 
 loop-holds : tie.Need-loop-holds Inv-loop2 μ-loop2 Inv-loop μ-loop
 unfolding largest
@@ -176,26 +178,26 @@ loop-holds c =
     let start = c .before .before .before in (
       omega arith,
       omega arith,
-      (λ l. finish-in (start .args .t1) (start .args .t2) (start .pre .0) (start .args .x) 0 l .0),
+      (λ l. finish-in (start .args .t1) (start .args .t2) (start .pre .0) (start .args .level) (start .args .x) 0 l .0),
       c .demand-but .ensures .0,
       c .demand-but .ensures .1,
-      bound-start (start .args .t1) (start .args .t2) (start .pre .0) (start .args .x),
+      bound-start (start .args .t1) (start .args .t2) (start .pre .0) (start .args .level) (start .args .x),
       refl,
     )
 
 add-arrivals : tie.Need-add-arrivals Inv-loop2 μ-loop2 Inv-loop μ-loop
-add-arrivals c = omega (arith, begun c .pre .3)
+add-arrivals c = omega (arith, begun c .pre .4)
 
 arrivals-requires : tie.Need-arrivals-requires Inv-loop2 μ-loop2 Inv-loop μ-loop
-arrivals-requires c κs = (head-spaced _ _ (begun c .pre .0) _ (begun c .pre .1), omega (arith, begun c .pre .3))
+arrivals-requires c κs = (head-spaced _ _ (begun c .pre .0) _ (begun c .pre .1), omega (arith, begun c .pre .4))
 
 add-work : tie.Need-add-work Inv-loop2 μ-loop2 Inv-loop μ-loop
-add-work c = omega (arith, begun (c .before .before) .pre .3)
+add-work c = omega (arith, begun (c .before .before) .pre .4)
 
 work-requires : tie.Need-work-requires Inv-loop2 μ-loop2 Inv-loop μ-loop
 work-requires c κs =
     let start = begun (c .before .before) in
-    (costed _ (start .pre .0 .sound) _ (start .pre .1), head-spaced _ _ (start .pre .0) _ (start .pre .1), omega (arith, start .pre .3))
+    (costed _ (start .pre .0 .sound) _ (start .pre .1), head-spaced _ _ (start .pre .0) _ (start .pre .1), omega (arith, start .pre .4))
 
 loop2-holds : tie.Need-loop2-holds Inv-loop2 μ-loop2 Inv-loop μ-loop
 loop2-holds c = let at = c .before .before .before in let inv = at .before .loop .inv in (inv .1, inv .2 (early at), inv .3, inv .4)
@@ -204,10 +206,10 @@ add-reach : tie.Need-add-reach Inv-loop2 μ-loop2 Inv-loop μ-loop
 add-reach c = omega (arith, c .loop2 .inv .3, c .before .work .ensures .1)
 
 reach-requires : tie.Need-reach-requires Inv-loop2 μ-loop2 Inv-loop μ-loop
-reach-requires c κs = (first c .pre .0 .sound, first c .pre .3)
+reach-requires c κs = (first c .pre .0 .sound, first c .pre .4)
 
 demand-but-requires-2 : tie.Need-demand-but-requires-2 Inv-loop2 μ-loop2 Inv-loop μ-loop
-demand-but-requires-2 c κs = (first (c .before .before) .pre .0, omega (arith, within (c .before), short (c .before .before)))
+demand-but-requires-2 c κs = (first (c .before .before) .pre .0, omega (arith, within (c .before), short (c .before .before)), first (c .before .before) .pre .1)
 
 loop2-less : tie.Need-loop2-less Inv-loop2 μ-loop2 Inv-loop μ-loop
 loop2-less c = omega (arith, c .before .if2 .left, within (c .before .before))
@@ -221,7 +223,7 @@ loop-again c =
     let p = passed c in (
       omega arith,
       p .0,
-      (λ l. omega (arith, p .1, finish-next (start .args .t1) (start .args .t2) (start .pre .0) (start .args .x) (c .before .before .before .loop .offset) l)),
+      (λ l. omega (arith, p .1, finish-next (start .args .t1) (start .args .t2) (start .pre .0) (start .args .level) (start .args .x) (c .before .before .before .loop .offset) l)),
       p .2,
       p .3,
       p .4,
@@ -232,10 +234,11 @@ returns : tie.Need-returns Inv-loop2 μ-loop2 Inv-loop μ-loop
 returns c =
     let start = c .before .before .before .before .before in
     let t = start .args .t1 in
+    let level = start .args .level in
     let x = start .args .x in
-    let e : c .before .loop .offset ≡ windowOf t = omega (arith, c .before .loop .inv .0, c .loop-test .left, start .pre .2) in
-    let r = c .before .loop .inv .6 ∙ ap (λ (k : ℕ). largest k (λ A. finishOf t x A - A)) e ∙ sym (bound-is t (start .args .t2) (start .pre .0) x) in
-    (r, omega (arith, r, bound-in t (start .args .t2) (start .pre .0) x, start .pre .2, start .pre .3))
+    let e : c .before .loop .offset ≡ windowIn t level = omega (arith, c .before .loop .inv .0, c .loop-test .left, start .pre .3) in
+    let r = c .before .loop .inv .6 ∙ ap (λ (k : ℕ). largest k (λ A. finishIn t level x A - A)) e ∙ sym (bound-is t (start .args .t2) (start .pre .0) level x) in
+    (r, omega (arith, r, bound-in t (start .args .t2) (start .pre .0) level x, start .pre .3, start .pre .4))
 
 pub bound-spec : {M : Type 1} → statement M
 bound-spec =

@@ -7,37 +7,37 @@ use Rattle.ranges.proofs.LeastLaws.{rest}
 use Rattle.windows.proofs.SearchLaws.{window-start, window-hit, window-jump, window-end}
 use Rattle.windows.proofs.window.Statement.{statement}
 use Rattle.windows.proofs.window.Tie as tie
-use Rattle.windows.specs.Bounds.{windowOf}
-use Rattle.windows.specs.Parts.{coveredOf}
+use Rattle.windows.specs.Bounds.{windowIn}
+use Rattle.windows.specs.Parts.{coveredIn}
 
 abbrev Inv-loop : tie.InvT-loop
-Inv-loop t heads horizon n length₀ length = (1 ≤ length) × (rest (coveredOf t) horizon length ≡ windowOf t)
+Inv-loop t heads level horizon length₀ length = (1 ≤ length) × (rest (coveredIn t level) horizon length ≡ windowIn t level)
 
 abbrev μ-loop : tie.MeasureT-loop
-μ-loop t heads horizon n length₀ length = horizon + 1 - length
+μ-loop t heads level horizon length₀ length = horizon + 1 - length
 
 loop-holds : tie.Need-loop-holds Inv-loop μ-loop
-loop-holds c = (omega arith, window-start _ _ (c .before .pre .1))
+loop-holds c = (omega arith, window-start _ _)
 
-demand-but-requires : tie.Need-demand-but-requires Inv-loop μ-loop
-demand-but-requires c κs = (c .before .before .before .pre .0, omega arith)
+demand-requires : tie.Need-demand-requires Inv-loop μ-loop
+demand-requires c κs = (c .before .before .pre .0, omega arith)
 
 reach-requires : tie.Need-reach-requires Inv-loop μ-loop
-reach-requires c κs = (c .before .before .before .before .pre .0 .sound, omega arith)
+reach-requires c κs = (c .before .before .before .pre .0 .sound, omega arith)
 
 returns : tie.Need-returns Inv-loop μ-loop
 returns c =
-    let start = c .before .before .before .before .before .before in (
-      sym (window-hit (start .args .t) (start .args .heads) (start .pre .0) (start .args .horizon) _ _ _ (c .before .before .demand-but .ensures .0) (c .before .reach .ensures) (c .before .before .before .loop-test .taken) (c .if1 .taken))
+    let start = c .before .before .before .before .before in (
+      sym (window-hit (start .args .t) (start .args .heads) (start .pre .0) (start .args .level) _ _ _ (c .before .before .demand .ensures .0) (c .before .reach .ensures) (c .before .before .before .loop-test .taken) (c .if1 .taken))
           ∙ c .before .before .before .before .loop .inv .1,
       omega arith,
     )
 
 loop-again : tie.Need-loop-again Inv-loop μ-loop
 loop-again c =
-    let start = c .before .before .before .before .before .before in (
+    let start = c .before .before .before .before .before in (
       omega arith,
-      sym (window-jump (start .args .t) (start .args .heads) (start .pre .0) (start .args .horizon) _ _ _ (c .before .before .demand-but .ensures .0) (c .before .reach .ensures) (c .if1 .left))
+      sym (window-jump (start .args .t) (start .args .heads) (start .pre .0) (start .args .level) _ _ _ (c .before .before .demand .ensures .0) (c .before .reach .ensures) (c .if1 .left))
           ∙ c .before .before .before .before .loop .inv .1,
     )
 
@@ -50,9 +50,8 @@ window-spec =
     (tie.spec
     Inv-loop
     μ-loop
-    (λ c. search needs)
     loop-holds
-    demand-but-requires
+    demand-requires
     reach-requires
     returns
     (λ c. search needs)

@@ -1,0 +1,2 @@
+-- LevelLaws: what the functions and the guarantee rest on.
+pub mod LevelLaws

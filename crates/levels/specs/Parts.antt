@@ -1,0 +1,16 @@
+-- What inner functions compute: E(1) of a record, who goes before whom by kind and slot, and whether a record is a timer of edition 1.
+use mathlib.Core.Bool.{Bool, _&&_, _||_}
+use Prim.Native.Nat.{ℕ}
+use lib.Dec.{eqb, ltb}
+use Rattle.curves.specs.Cost.{cost}
+use Rattle.numbers.specs.Numbers.{editionOne, timer}
+use Rattle.table.specs.declared.Callback.{Callback}
+use Rattle.table.specs.Values.{entriesOf}
+
+-- E(1)
+unfoldable pub singleOf : Callback → ℕ
+singleOf c = cost (entriesOf c) 1
+
+-- whether the slot of one kind goes before that of another
+unfoldable pub goesBefore : ℕ → ℕ → ℕ → ℕ → Bool
+goesBefore kind slot other place = ltb kind other || (eqb kind other && ltb slot place)
