@@ -3,7 +3,8 @@
 --   first-sum, fed-sums    a sum without its first term; what flows into a callback, summed over time
 --   activations-in         a callback's activations are its bits in the masks and the completions that release it
 --   answers, starts-late   no tick is refused; no instance starts before its activation
---   in-time                the k-th completion, from the k-th activation of the head and a bound that covers
+--   Kept, kept-all         what a bound promises, as counts; one over all callbacks keeps it
+--   in-time                so the k-th completion comes in time after the k-th activation of the head
 use mathlib.Core.Path.{_≡_, refl, subst, sym, ap, _∙_}
 use mathlib.Core.Logic.{_⊎_, inl, inr}
 use mathlib.Core.Bool.{Bool, true, false, cond}
@@ -23,7 +24,7 @@ use Rattle.table.specs.declared.Table.{Table}
 use Rattle.table.specs.Links.{linked, isHead, nextAfter}
 use Rattle.busy_window.specs.Bound.{Covers}
 use Rattle.busy_window.specs.Flow.{fed, counts}
-use Rattle.busy_window.proofs.Busy.{late}
+use Rattle.busy_window.proofs.Level.{in-set, alone}
 use Rattle.busy_window.proofs.Flow.{inflow, fed-add, fed-zero}
 use Rattle.busy_window.proofs.Chain.{given-no, fed-none}
 use Rattle.answers.specs.declared.Answer.{Answer}
@@ -190,17 +191,22 @@ module _ (tb : Table) (analysed : Analysed tb) (h : List Tick) (short : length h
   unfolding completion completions
   completion-at i k u x e = (x, e)
 
-  finished-enough : (i k v R : ℕ) → i < n → v < length h → activatedTo tb h i v < k → k ≤ activatedTo tb h i (suc v)
-      → Covers n (costOf tb) (supplyOf tb) 0 (limit (arrivalsOf tb) i) (windowOf tb) R → v + R ≤ length h → k ≤ sum (v + R) (λ u. given (completesAt r i u) 1)
-  unfolding completions read counts events
-  finished-enough i k v R l hv lo hi cover end = rw (completions-same i (v + R) end)
-      (late n (length h) (read tb h free) (arrivalsOf tb) (costOf tb) (supplyOf tb) (length h) (le-refl _) 0 (Unrefused.pure-runs tb analysed h short w)
-      (Unrefused.within-all tb analysed h short w) (sound-rising tb (analysed .sound)) (windowOf tb) (analysed .window) (analysed .supplied) i v k R l hv lo hi cover end)
+  -- what a number R promises of callback i, as counts
+  abbrev pub Kept : ℕ → ℕ → Type 0
+  Kept i R = (v k : ℕ) → v < length h → activatedTo tb h i v < k → k ≤ activatedTo tb h i (suc v) → v + R ≤ length h → k ≤ done i (v + R)
 
-  pub in-time : (i k v R : ℕ) → i < n → Covers n (costOf tb) (supplyOf tb) 0 (limit (arrivalsOf tb) i) (windowOf tb) R
-      → activation tb h r (headOf tb i) k v → v + R ≤ length h → (t : ℕ) × (t ≤ v + R) × completion r i k t
-  unfolding activation
-  in-time i k v R l cover x end = found (reached (completesAt r i) (v + R) k (omega (arith, before-k)) enough)
+  -- a bound over all callbacks keeps its promise
+  pub kept-all : (i R : ℕ) → i < n → Covers n (costOf tb) (supplyOf tb) 0 (limit (arrivalsOf tb) i) (windowOf tb) R → Kept i R
+  unfolding read counts events
+  kept-all i R l cover v k hv lo hi end =
+      let pure = read tb h free in
+      let run = Unrefused.pure-runs tb analysed h short w in
+      in-set n (λ _. true) pure (length h) (arrivalsOf tb) (costOf tb) (supplyOf tb) (length h) (le-refl _) 0 0 run (Unrefused.within-all tb analysed h short w)
+      (sound-rising tb (analysed .sound)) (alone n (length h) 0 pure run) (windowOf tb) (analysed .window) (analysed .supplied) i v k R l refl hv lo hi cover end
+
+  pub in-time : (i k v R : ℕ) → i < n → Kept i R → activation tb h r (headOf tb i) k v → v + R ≤ length h → (t : ℕ) × (t ≤ v + R) × completion r i k t
+  unfolding activation completions
+  in-time i k v R l kept x end = found (reached (completesAt r i) (v + R) k (omega (arith, before-k)) enough)
     where
       bit : has ((tickAt h v) .mask) (headOf tb i) ≡ true
       bit = sym (head-activated tb h r (headOf tb i) v (leads tb (analysed .sound) i l)) ∙ holds _ (x .0)
@@ -219,7 +225,7 @@ module _ (tb : Table) (analysed : Analysed tb) (h : List Tick) (short : length h
       before-k = one-more i v bit ∙ is-k
 
       enough : k ≤ sum (v + R) (λ u. given (completesAt r i u) 1)
-      enough = finished-enough i k v R l in-list (omega (arith, before-k)) (omega (arith, is-k)) cover end
+      enough = rw (completions-same i (v + R) end) (kept v k in-list (omega (arith, before-k)) (omega (arith, is-k)) end)
 
       found : (u : ℕ) × (u < v + R) × T (completesAt r i u) × (sum (suc u) (λ u. given (completesAt r i u) 1) ≡ k) → (t : ℕ) × (t ≤ v + R) × completion r i k t
       found y = (suc (y .0), y .1, completion-at i k (y .0) (y .2) (y .3))

@@ -31,7 +31,7 @@ guaranteed : (b row : List ℕ) (h : List Tick) → (analysisFault b (length row
 guaranteed b row h f short w = record {
   answered = Conclusions.answers t an h short w;
   started = Conclusions.starts-late t an h short w;
-  finished = λ i k v l x end. rw (analysed-at b row f i l) (Conclusions.in-time t an h short w i k v (boundOfAll t i) l (an .covers i l) x (rw (analysed-at b row f i l) at end));
+  finished = λ i k v l x end. rw (analysed-at b row f i l) (Conclusions.in-time t an h short w i k v (boundOfAll t i) l (Conclusions.kept-all t an h short w i (boundOfAll t i) l (an .covers i l)) x (rw (analysed-at b row f i l) at end));
 }
   where
     t : Table
