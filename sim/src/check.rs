@@ -1,10 +1,10 @@
 //! Demand 3 tried on random tables and histories.
 
-use crate::generate::histories::{recovery, within, Style};
+use crate::generate::histories::{recovery, turns, within, Style};
 use crate::generate::tables::{table, Shape};
 use crate::history::{conclusions, longest_response, within_curves, Departure, History, Violation};
 use crate::random::Random;
-use crate::sheet::sheet;
+use crate::sheet::{first_bounds, has_second_bound, sheet, Sheet};
 use crate::table::{encode, Table};
 use crate::text::{script_text, Line, Script};
 
@@ -35,6 +35,28 @@ pub fn judged(table: &Table, bounds: &[u64], history: &History) -> Judgement {
     }
 }
 
+/// How near the responses came to some bounds.
+#[derive(Clone, Copy, Debug, Default, PartialEq, Eq)]
+pub struct Nearness {
+    pub bounds: u64,
+    /// Those that some history reached exactly.
+    pub reached: u64,
+    /// Sum of response × 1000 / bound.
+    pub thousandths: u64,
+}
+
+impl Nearness {
+    fn add(&mut self, bound: u64, response: u64) {
+        self.bounds += 1;
+        self.reached += u64::from(response == bound);
+        self.thousandths += response * 1_000 / bound;
+    }
+
+    fn mean(&self) -> u64 {
+        self.thousandths / self.bounds.max(1)
+    }
+}
+
 /// What a check has seen.
 #[derive(Clone, Debug, Default)]
 pub struct Totals {
@@ -47,25 +69,19 @@ pub struct Totals {
     pub longest_window: u64,
     pub histories: u64,
     pub ticks: u64,
-    /// Bounds whose window fits the histories, and those that some history
-    /// reached exactly.
-    pub bounds: u64,
-    pub reached: u64,
-    /// Sum over these bounds of response × 1000 / bound.
-    pub thousandths: u64,
+    /// Bounds whose window fits the histories: those of the row, and for the same callbacks those of
+    /// before U5, with which the same responses are compared.
+    pub row: Nearness,
+    pub before: Nearness,
+    /// The same for the timers of edition 1 alone.
+    pub timers: Nearness,
+    pub timers_before: Nearness,
+    /// The timers among them whose bound is smaller than it was.
+    pub lowered: u64,
     /// Histories that the generator failed to keep within the curves.
     pub outside: Vec<String>,
     /// Violations of demand 3.
     pub violations: Vec<String>,
-}
-
-/// How many histories each table is tried with: every style of `of_turn` twice, and greedy first.
-fn histories(table: &Table) -> u64 {
-    if table.delay == 0 {
-        9
-    } else {
-        11
-    }
 }
 
 /// How long they are, if they may be: some windows, and for a table with a delay a rest in which
@@ -103,7 +119,8 @@ fn check_table(seed: u64, most_ticks: u64, totals: &mut Totals) {
     let (table, window) = (&sheet.table, sheet.window);
     let mut responses = vec![0; table.count()];
     let length = most_ticks.min(enough(table, window));
-    let styles: Vec<Style> = (0..histories(table))
+    let styles: Vec<Style> = turns(table)
+        .into_iter()
         .map(|turn| Style::of_turn(&mut random, table, window, turn))
         .collect();
     for style in styles {
@@ -115,7 +132,7 @@ fn check_table(seed: u64, most_ticks: u64, totals: &mut Totals) {
         }
     }
     if window <= most_ticks {
-        tally(&sheet.bounds, &responses, totals);
+        tally(&sheet, &responses, totals);
     }
 }
 
@@ -139,11 +156,18 @@ fn note(seed: u64, table: &Table, history: &History, judgement: &Judgement, tota
     }
 }
 
-fn tally(bounds: &[u64], responses: &[u64], totals: &mut Totals) {
-    for (&bound, &response) in bounds.iter().zip(responses) {
-        totals.bounds += 1;
-        totals.reached += u64::from(response == bound);
-        totals.thousandths += response * 1_000 / bound;
+/// Compares the longest responses with the bounds, and with those of before U5.
+fn tally(sheet: &Sheet, responses: &[u64], totals: &mut Totals) {
+    let before = first_bounds(&sheet.table, sheet.window);
+    for (place, &response) in responses.iter().enumerate() {
+        let (bound, before) = (sheet.bounds[place], before[place]);
+        totals.row.add(bound, response);
+        totals.before.add(before, response);
+        if has_second_bound(&sheet.table, place + 1) {
+            totals.timers.add(bound, response);
+            totals.timers_before.add(before, response);
+            totals.lowered += u64::from(bound < before);
+        }
     }
 }
 
@@ -164,11 +188,22 @@ pub fn report(totals: &Totals) -> String {
         format!("longest window {}", totals.longest_window),
         format!("histories {}", totals.histories),
         format!("ticks {}", totals.ticks),
-        format!("bounds {}", totals.bounds),
-        format!("reached exactly {}", totals.reached),
+        format!("bounds {}", totals.row.bounds),
+        format!("reached exactly {}", totals.row.reached),
+        format!("mean thousandths of the bound {}", totals.row.mean()),
+        format!("before U5 reached exactly {}", totals.before.reached),
+        format!("before U5 mean thousandths {}", totals.before.mean()),
+        format!("timers of U5 {}", totals.timers.bounds),
+        format!("timers of U5 with a smaller bound {}", totals.lowered),
+        format!("timers of U5 reached exactly {}", totals.timers.reached),
+        format!("timers of U5 mean thousandths {}", totals.timers.mean()),
         format!(
-            "mean thousandths of the bound {}",
-            totals.thousandths / totals.bounds.max(1)
+            "timers of U5 before it reached exactly {}",
+            totals.timers_before.reached
+        ),
+        format!(
+            "timers of U5 before it mean thousandths {}",
+            totals.timers_before.mean()
         ),
         format!("histories outside the curves {}", totals.outside.len()),
         format!("violations {}", totals.violations.len()),

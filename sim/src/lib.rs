@@ -1,7 +1,7 @@
 //! The cue executor and its timing sheet. `table`, `sheet`, `machine`,
-//! `history` and `trackers` are written from document 01 and requests U1 and U2
-//! of document 02 alone, `write` from these and request U4, but for the form in
-//! which it gets the numbers; their comments name the section, step or refusal
+//! `history` and `trackers` are written from document 01 and requests U1, U2 and
+//! U5 of document 02 alone, `write` from these and request U4, but for the form
+//! in which it gets the numbers; their comments name the section, step or refusal
 //! that the code renders.
 
 pub mod check;

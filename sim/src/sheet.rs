@@ -1,7 +1,8 @@
 //! The curves and the sheet: window, bounds and the analyser (refusals 15 to 17). Sections in
-//! quotes are document 01's, U2 is a request of document 02.
+//! quotes are document 01's, U2 and U5 are requests of document 02. The bound of before U5 is the
+//! first bound here, as its own name for the other one is the second bound.
 
-use crate::table::{read, refusal, Callback, Refusal, Table, MOST_CALLBACKS};
+use crate::table::{read, refusal, Callback, Kind, Refusal, Table, MOST_CALLBACKS};
 
 /// 'Curves', arrivals: the most activations of a head in D = `length` ticks, which is 0 for no
 /// ticks, whatever J is, and otherwise min(⌈(D + J) / T⌉, ⌈D / d⌉). (T and d must not be zero)
@@ -75,10 +76,11 @@ pub fn window_literal(table: &Table) -> Option<u64> {
     (1..=table.longest_window()).find(|&w| delayed_supply(table, w) >= cost_of_all(table, w))
 }
 
-/// 'The sheet', bound: the largest response F(A) - A over the offsets A below `window`. F(A) is the
-/// first length, from 1 on, whose supply covers the callback's own E(a(A + 1)) and the costs of the
-/// others in that length. Lengths end at `window`, since F(A) does not exceed W.
-pub fn bound_literal(table: &Table, index: usize, window: u64) -> u64 {
+/// 'The sheet', bound, "the present bound" of U5: the largest response F(A) - A over the offsets A
+/// below `window`. F(A) is the first length, from 1 on, whose supply covers the callback's own
+/// E(a(A + 1)) and the costs of the others in that length. Lengths end at `window`, since F(A) does
+/// not exceed W.
+pub fn first_bound_literal(table: &Table, index: usize, window: u64) -> u64 {
     let mut bound = 0;
     for offset in 0..window {
         let own = cost_in(table, index, offset + 1);
@@ -93,14 +95,101 @@ pub fn bound_literal(table: &Table, index: usize, window: u64) -> u64 {
     bound
 }
 
-/// The number of `window_literal`, by jumps. Where the supply of a length L falls short of the
-/// cost by x, no length below L + x is a window: the supply grows by at most 1 a tick, with a delay
-/// too, and the cost never falls with the length. So jumping to L + x skips no window.
+/// 'The callback table', priority: whether the one callback goes before the other, by kind number
+/// first and by index among those of one kind. None goes before itself.
+pub fn goes_before(table: &Table, one: usize, other: usize) -> bool {
+    (table.callback(one).kind, one) < (table.callback(other).kind, other)
+}
+
+/// U5, "for timer i of edition 1": whether the callback has a second bound.
+pub fn has_second_bound(table: &Table, index: usize) -> bool {
+    table.edition == 1 && table.callback(index).kind == Kind::Timer
+}
+
+/// U5, "let B be the largest E(1) among callbacks of lower priority, less 1, or 0 if there are
+/// none": what may be left of a lower instance that started in the tick before.
+pub fn blocking_literal(table: &Table, index: usize) -> u64 {
+    let lower = (1..=table.count()).filter(|&i| goes_before(table, index, i));
+    let costliest = lower.map(|i| cost(&table.callback(i).entries, 1)).max();
+    costliest.map_or(0, |most| most - 1)
+}
+
+/// U5, "the demand E(a(D)) of the timers above": those of higher priority, added up.
+fn cost_of_timers_above(table: &Table, index: usize, length: u64) -> u64 {
+    let timers = (1..=table.count()).filter(|&i| table.callback(i).kind == Kind::Timer);
+    let above = timers.filter(|&i| goes_before(table, i, index));
+    above.map(|i| cost_in(table, i, length)).sum()
+}
+
+/// U5, "its own window is the least positive length whose supply covers B plus the demand of i and
+/// the timers above it". Lengths end at `most`; for that W does, which no own window exceeds.
+pub fn own_window_literal(table: &Table, index: usize, most: u64) -> Option<u64> {
+    let blocking = blocking_literal(table, index);
+    (1..=most).find(|&length| {
+        let own = cost_in(table, index, length);
+        let above = cost_of_timers_above(table, index, length);
+        delayed_supply(table, length) >= blocking + own + above
+    })
+}
+
+/// U5, "for each offset A from 0 to that length less 1, take the least positive D with supply at
+/// least B + E of i at a(A + 1) + the demand E(a(D)) of the timers above. The second bound is the
+/// largest D - A". No such D is above the own window: that covers a(A + 1) too. None where the
+/// callback has no second bound, or no own window up to `most`.
+pub fn second_bound_literal(table: &Table, index: usize, most: u64) -> Option<u64> {
+    if !has_second_bound(table, index) {
+        return None;
+    }
+    let own_window = own_window_literal(table, index, most)?;
+    let blocking = blocking_literal(table, index);
+    let mut bound = 0;
+    for offset in 0..own_window {
+        let own = cost_in(table, index, offset + 1);
+        for length in 1..=own_window {
+            let needed = blocking + own + cost_of_timers_above(table, index, length);
+            if delayed_supply(table, length) >= needed {
+                bound = bound.max(length.saturating_sub(offset));
+                break;
+            }
+        }
+    }
+    Some(bound)
+}
+
+/// U5, "the row gets the smaller of the two": of first and second bound for a timer of edition 1.
+/// "Tables of edition 2 keep the present bound", and so do all other callbacks.
+pub fn bound_literal(table: &Table, index: usize, window: u64) -> u64 {
+    let first = first_bound_literal(table, index, window);
+    match second_bound_literal(table, index, window) {
+        Some(second) => first.min(second),
+        None => first,
+    }
+}
+
+/// The number of `window_literal`, by jumps.
 pub fn window(table: &Table) -> Option<u64> {
+    let needed = |length| cost_of_all(table, length);
+    first_covered(table, table.longest_window(), needed)
+}
+
+/// The number of `own_window_literal`, by jumps; for timers of edition 1.
+pub fn own_window(table: &Table, index: usize, most: u64) -> Option<u64> {
+    let blocking = blocking(table, index);
+    let timers = timers_up_to(table, index);
+    let needed = |length| {
+        let demands = timers.iter().map(|&i| cost_in(table, i, length));
+        blocking + demands.sum::<u64>()
+    };
+    first_covered(table, most, needed)
+}
+
+/// The first length up to `most` whose supply covers what is needed in it. Where the supply of a
+/// length L falls short by x, no length below L + x serves: the supply grows by at most 1 a tick,
+/// with a delay too, and the need must not fall with the length. So jumping to L + x skips none.
+fn first_covered(table: &Table, most: u64, needed: impl Fn(u64) -> u64) -> Option<u64> {
     let mut length = 1;
-    while length <= table.longest_window() {
-        let needed = cost_of_all(table, length);
-        let supplied = delayed_supply(table, length);
+    while length <= most {
+        let (needed, supplied) = (needed(length), delayed_supply(table, length));
         if supplied >= needed {
             return Some(length);
         }
@@ -109,20 +198,92 @@ pub fn window(table: &Table) -> Option<u64> {
     None
 }
 
-/// The numbers of `bound_literal` for callbacks 1 to n. Shortcut 1: each value of each curve at 0
-/// to W is reckoned once and kept; these are the same values. Shortcut 2: the sum over the others
-/// is the sum over all less the callback's own. For shortcut 3 see `bound_by_rows`.
+/// The timer and those above it, which are the timers up to its index.
+fn timers_up_to(table: &Table, index: usize) -> Vec<usize> {
+    let timer = |&i: &usize| table.callback(i).kind == Kind::Timer;
+    (1..=index).filter(timer).collect()
+}
+
+/// The number of `blocking_literal` for a timer. All but `timers_up_to` go behind it.
+pub fn blocking(table: &Table, index: usize) -> u64 {
+    let upper = timers_up_to(table, index);
+    let lower = (1..=table.count()).filter(|i| !upper.contains(i));
+    let left = lower.map(|i| table.callback(i).entries[0] - 1);
+    left.max().unwrap_or(0)
+}
+
+/// Shortcut 1: each value of each curve at 0 to W is reckoned once and kept; these are the same
+/// values.
+struct Rows {
+    supplied: Vec<u64>,
+    /// By place of the callback: its E(a(D)).
+    costs: Vec<Vec<u64>>,
+}
+
+impl Rows {
+    fn new(table: &Table, window: u64) -> Rows {
+        let callbacks = 1..=table.count();
+        Rows {
+            supplied: (0..=window).map(|d| delayed_supply(table, d)).collect(),
+            costs: callbacks.map(|i| cost_row(table, i, window)).collect(),
+        }
+    }
+
+    /// The costs of these callbacks, added up length by length.
+    fn together(&self, indices: impl Iterator<Item = usize> + Clone) -> Vec<u64> {
+        let lengths = 0..self.supplied.len();
+        let sum = |d: usize| indices.clone().map(|i| self.costs[i - 1][d]).sum();
+        lengths.map(sum).collect()
+    }
+
+    /// The numbers of `first_bound_literal` for callbacks 1 to n. Shortcut 2: the sum over the
+    /// others is the sum over all less the callback's own. For shortcut 3 see `bound_by_rows`.
+    fn first_bounds(&self) -> Vec<u64> {
+        let all = self.together(1..=self.costs.len());
+        let each = self.costs.iter();
+        each.map(|own| bound_by_rows(&self.supplied, own, &all))
+            .collect()
+    }
+
+    /// The number of `second_bound_literal`. The search is that of the first bound over a shorter
+    /// window, with the timers up to this one and what blocks them in the place of all callbacks.
+    fn second_bound(&self, table: &Table, index: usize) -> Option<u64> {
+        if !has_second_bound(table, index) {
+            return None;
+        }
+        let timers = timers_up_to(table, index);
+        let mut needed = self.together(timers.iter().copied());
+        let blocking = blocking(table, index);
+        needed.iter_mut().for_each(|sum| *sum += blocking);
+        let mut lengths = 1..self.supplied.len();
+        let own_window = lengths.find(|&d| self.supplied[d] >= needed[d])?;
+        let supplied = &self.supplied[..=own_window];
+        Some(bound_by_rows(supplied, &self.costs[index - 1], &needed))
+    }
+}
+
+/// The numbers of `bound_literal` for callbacks 1 to n, from rows of values.
 pub fn bounds(table: &Table, window: u64) -> Vec<u64> {
-    let supplied: Vec<u64> = (0..=window).map(|d| delayed_supply(table, d)).collect();
-    let costs: Vec<Vec<u64>> = (1..=table.count())
-        .map(|i| cost_row(table, i, window))
-        .collect();
-    let all: Vec<u64> = (0..supplied.len())
-        .map(|d| costs.iter().map(|row| row[d]).sum())
-        .collect();
-    let each = costs.iter();
-    each.map(|own| bound_by_rows(&supplied, own, &all))
+    let rows = Rows::new(table, window);
+    let first = rows.first_bounds().into_iter().zip(1..);
+    first
+        .map(|(first, index)| match rows.second_bound(table, index) {
+            Some(second) => first.min(second),
+            None => first,
+        })
         .collect()
+}
+
+/// The numbers of `first_bound_literal` for callbacks 1 to n: the row as it was before U5.
+pub fn first_bounds(table: &Table, window: u64) -> Vec<u64> {
+    Rows::new(table, window).first_bounds()
+}
+
+/// The numbers of `second_bound_literal` for callbacks 1 to n.
+pub fn second_bounds(table: &Table, window: u64) -> Vec<Option<u64>> {
+    let rows = Rows::new(table, window);
+    let callbacks = 1..=table.count();
+    callbacks.map(|i| rows.second_bound(table, i)).collect()
 }
 
 /// The callback's E(a(D)) for D in 0 to `window`.
@@ -136,7 +297,8 @@ fn cost_row(table: &Table, index: usize, window: u64) -> Vec<u64> {
 /// Shortcut 3: the callback's own cost, E(a(A + 1)), never falls as A grows, so a length that is
 /// too short for one offset is too short for every later one. The search for F(A + 1) therefore
 /// begins at F(A), and where an offset has no length up to W, no later one has. (of the supply
-/// nothing is asked, so a delay changes nothing here)
+/// nothing is asked, so a delay changes nothing here) `supplied` says how long the window is; the
+/// other rows may be longer.
 fn bound_by_rows(supplied: &[u64], own: &[u64], all: &[u64]) -> u64 {
     let (mut bound, mut length) = (0, 1);
     for offset in 0..supplied.len() - 1 {

@@ -475,27 +475,27 @@ fn program_with_delays() {
 
 /// The sheet that `sim check` tries for this seed, if there is one.
 fn checked_sheet(seed: u64) -> Option<Sheet> {
-    let mut random = Random::new(seed);
-    let shape = if random.chance(95) {
-        Shape::Small
-    } else {
-        Shape::Long
-    };
-    analysed(&encode(&table(&mut random, shape))).ok()
+    analysed(&encode(&checked_table(seed))).ok()
 }
 
 /// `sim check` counts the accepted tables with a delay, and tries two histories more on each, which
-/// are longer by a rest.
+/// are longer by a rest. On tables of edition 1 it tries two more where they have a timer, and one
+/// for each timer from the third on.
 #[test]
 fn check_counts_delays() {
     let sheets: Vec<Sheet> = (1..=60).filter_map(checked_sheet).collect();
     let late = sheets.iter().filter(|sheet| sheet.table.delay > 0);
     let (mut histories, mut ticks) = (0, 0);
     for Sheet { table, window, .. } in &sheets {
-        let (tried, rest) = match table.delay {
-            0 => (9, 0),
-            _ => (11, recovery(table)),
+        let (late, rest) = match table.delay {
+            0 => (0, 0),
+            _ => (2, recovery(table)),
         };
+        let blocking = match timers_first(table) {
+            0 => 0,
+            timers => timers.max(2),
+        };
+        let tried = 9 + late + blocking;
         histories += tried;
         ticks += tried * (8 * window + 20 + rest).min(300);
     }

@@ -8,8 +8,9 @@ use sim::generate::worst::{tries, worst};
 use sim::history::{longest_response, play, within_curves, History};
 use sim::random::Random;
 use sim::sheet::{sheet as analysed, Sheet};
-use sim::table::{encode, Kind, Table};
+use sim::table::{encode, read, Kind, Table};
 use sim::text::{hex, script, Line, Script};
+use std::ops::RangeInclusive;
 
 /// A chain and two lone callbacks in partial supply, all with room for bursts.
 fn desk() -> Table {
@@ -37,38 +38,50 @@ fn plain(script: &Script) -> History {
 
 /// What seeds gave before the trackers, before edition 2 and before delays, as digests of what they
 /// draw for tables of edition 1 without a delay. Drawn tables stay but for edition and delay;
-/// without these they are compared.
+/// without these they are compared. Where U5 changes bounds, the worst history and the checks are
+/// others, so that of these only those of tables without timers are compared.
 #[test]
 fn seeds_give_what_they_gave() {
-    let drawn = |sort: &str, ticks: &str| digest(histories_of_seeds(sort, ticks));
-    assert_eq!(drawn("within", "300"), WITHIN);
-    assert_eq!(drawn("outside", "300"), OUTSIDE);
-    assert_eq!(drawn("worst", "40"), WORST);
+    let drawn = |sort: &str| histories_of_seeds(1..=90, sort, "300");
+    assert_eq!(digest(drawn("within")), WITHIN);
+    assert_eq!(digest(drawn("outside")), OUTSIDE);
+    let worst = histories_of_seeds(1..=200, "worst", "40").into_iter();
+    let plain =
+        worst.filter(|text| !with_timers_first(&read(&script(text).unwrap().table).unwrap()));
+    assert_eq!(digest(plain), WORST);
     let tables = |sort: &str| {
         let text = program(&["generate", "tables", "1", "300", sort], b"");
         digest(text.lines().map(without_edition_and_delay))
     };
     assert_eq!(["small", "long", "extreme"].map(tables), TABLES);
-    let checks = (1..=90).map(|seed: u64| program(&["check", &seed.to_string(), "1"], b""));
+    let plain = (1..=300).filter(|&seed| !with_timers_first(&checked_table(seed)));
+    let checks = plain.map(|seed| program(&["check", &seed.to_string(), "1"], b""));
     let first = checks.filter(|text| text.contains(NEITHER));
-    assert_eq!(digest(first.map(|text| text.replace(NEITHER, ""))), CHECK);
+    assert_eq!(digest(first.map(|text| as_before(&text))), CHECK);
+}
+
+/// What a check printed before U5 and its lines, without those about edition and delay.
+fn as_before(check: &str) -> String {
+    let check = check.replace(NEITHER, "");
+    let lines = check.lines().filter(|line| !line.contains("U5"));
+    lines.map(|line| line.to_string() + "\n").collect()
 }
 
 const WITHIN: u64 = 0x9d64_4400_caa4_a586;
 const OUTSIDE: u64 = 0xb8d7_9f8b_7fb6_4ae9;
-const WORST: u64 = 0xc468_f7ef_b00d_cc88;
+const WORST: u64 = 0x2304_aaf9_c407_64fa;
 const TABLES: [u64; 3] = [
     0xa374_5eb6_8589_f093,
     0x105b_297a_ca2f_eb06,
     0x0462_703d_f5b7_4833,
 ];
-const CHECK: u64 = 0x6621_b027_0287_50eb;
+const CHECK: u64 = 0xaf59_2a8d_4257_24c5;
 const NEITHER: &str = "accepted 1\nof these in edition 2 0\nof these with a delay 0\n";
 
-/// What seeds 1 to 90 give of this sort, where the table is of edition 1 and none was drawn with a
+/// What these seeds give of this sort, where the table is of edition 1 and none was drawn with a
 /// delay.
-fn histories_of_seeds(sort: &str, ticks: &str) -> Vec<String> {
-    let seeds = (1..=90).filter(|&seed| without_delays(seed));
+fn histories_of_seeds(seeds: RangeInclusive<u64>, sort: &str, ticks: &str) -> Vec<String> {
+    let seeds = seeds.filter(|&seed| without_delays(seed));
     let texts = seeds.map(|seed| {
         let words = ["generate", "history", &seed.to_string(), sort, ticks];
         program(&words, b"")
@@ -80,6 +93,21 @@ fn histories_of_seeds(sort: &str, ticks: &str) -> Vec<String> {
 fn without_edition_and_delay(line: &str) -> String {
     format!("{}{}\n", &line[2..16], &line[20..])
 }
+
+/// What seeds give since U5 for tables of edition 1 with timers.
+#[test]
+fn seeds_give_what_they_give_for_timers() {
+    let worst = histories_of_seeds(1..=60, "worst", "40").into_iter();
+    let timed =
+        worst.filter(|text| with_timers_first(&read(&script(text).unwrap().table).unwrap()));
+    assert_eq!(digest(timed), TIMED_WORST);
+    let seeds = (1..=60).filter(|&seed| with_timers_first(&checked_table(seed)));
+    let checks = seeds.map(|seed| program(&["check", &seed.to_string(), "1"], b""));
+    assert_eq!(digest(checks), TIMED_CHECK);
+}
+
+const TIMED_WORST: u64 = 0xffd1_e3cb_644d_0039;
+const TIMED_CHECK: u64 = 0xc042_48bf_70ff_b287;
 
 /// What seeds give since U2, damaged tables among it: these have one number more to be refused with.
 #[test]
@@ -217,7 +245,7 @@ fn tried(random: &mut Random, sheet: &Sheet, length: u64) -> Vec<History> {
         let style = Style::of_turn(random, &sheet.table, span, turn);
         within(random, &sheet.table, &style, length)
     };
-    (0..tries(length)).map(&mut drawn).collect()
+    (0..tries(&sheet.table, length)).map(&mut drawn).collect()
 }
 
 /// The worst of the tried histories is the first that comes nearest to a bound. Often that is not
@@ -250,10 +278,12 @@ fn worst_of_all_that_are_tried() {
         longest_elsewhere += u64::from(longer);
     }
     assert!(longest_elsewhere > 0);
-    assert_eq!(
-        [0, 100, 2_500, 10_000, 10_000_000].map(tries),
-        [200, 200, 200, 50, 6]
-    );
+    for (table, fewest) in [(in_edition(2, &desk()), 6), (delayed(3, &desk()), 7)] {
+        assert_eq!(
+            [0, 100, 2_500, 10_000, 10_000_000].map(|length| tries(&table, length)),
+            [200, 200, 200, 50, fewest]
+        );
+    }
 }
 
 /// The sort needs no table, as the others do not.

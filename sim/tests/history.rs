@@ -103,9 +103,10 @@ fn supply_with_a_delay() {
 #[test]
 fn generated_histories_are_within_the_curves_and_in_time() {
     let totals = sim::check::check(1_000, 120, 300);
-    assert!(totals.accepted > 50 && totals.reached > 20);
+    assert!(totals.accepted > 50 && totals.row.reached > 20);
     assert!(totals.second > 25 && totals.accepted - totals.second > 25);
     assert!(totals.delayed > 25 && totals.accepted - totals.delayed > 25);
+    assert!(totals.timers.reached > 20 && totals.lowered > 20);
     assert!(totals.outside.is_empty(), "{:?}", totals.outside);
     assert!(totals.violations.is_empty(), "{:?}", totals.violations);
 }

@@ -1,4 +1,4 @@
-//! The cases reckoned by hand, P1 to P10.
+//! The cases reckoned by hand, P1 to P10, the timers of P6 and P7 as U5 has them.
 
 mod common;
 use common::*;
@@ -44,13 +44,15 @@ fn p5_burst_of_falling_costs() {
 
 #[test]
 fn p6_pair() {
-    assert_eq!(sheet(&p6()), Ok((5, vec![5, 5])));
+    assert_eq!(sheet(&in_edition(2, &p6())), Ok((5, vec![5, 5])));
+    assert_eq!(sheet(&p6()), Ok((5, vec![4, 5])));
 }
 
 #[test]
 fn p7_pair_in_partial_supply() {
     let table = supplied(2, 5, vec![timer(50, &[2]), subscription(100, &[3])]);
-    assert_eq!(sheet(&table), Ok((17, vec![17, 17])));
+    assert_eq!(sheet(&in_edition(2, &table)), Ok((17, vec![17, 17])));
+    assert_eq!(sheet(&table), Ok((17, vec![13, 17])));
 }
 
 #[test]
@@ -99,8 +101,8 @@ fn p10_polling_points() {
 #[test]
 fn p4_at_offset_0_only() {
     let table = full(vec![p2(&[4])]);
-    assert_eq!(sim::sheet::bound_literal(&table, 1, 4), 4);
-    assert_eq!(sim::sheet::bound_literal(&table, 1, 12), 7);
+    assert_eq!(sim::sheet::first_bound_literal(&table, 1, 4), 4);
+    assert_eq!(sim::sheet::first_bound_literal(&table, 1, 12), 7);
 }
 
 /// Document 01, 'Readings that tempt', curves: J does not count in a window of no ticks, and costs

@@ -5,8 +5,8 @@ use common::*;
 use sim::history::{play, History};
 use sim::machine::Answer;
 use sim::picture::{svg, svg_part};
-use sim::table::{encode, Kind, Table};
-use sim::text::{hex, line_text, Line};
+use sim::table::{encode, read, Kind, Table};
+use sim::text::{hex, line_text, script, Line};
 
 /// A client of cost 4 that activates a subscription of cost 1.
 fn chain_of_two() -> Table {
@@ -74,11 +74,11 @@ fn whole_range_is_the_whole_picture() {
     assert_eq!(whole, part);
 }
 
-/// What pictures were before they had parts, before edition 2 and before delays, as a digest of those
-/// with neither.
+/// What pictures were before they had parts, before edition 2, before delays and before U5, as a
+/// digest of those that none of these changes.
 #[test]
 fn whole_pictures_are_what_they_were() {
-    let seeds = (1..=90).filter(|&seed| without_delays(seed));
+    let seeds = (1..=300).filter(|&seed| without_delays(seed));
     let histories = seeds.map(|seed: u64| {
         let sort = ["within", "outside"][seed as usize % 2];
         let ticks = [5, 60, 100, 400][seed as usize % 4].to_string();
@@ -86,11 +86,13 @@ fn whole_pictures_are_what_they_were() {
         program(&words, b"")
     });
     let first = histories.filter(|text| text.starts_with("01"));
+    let first =
+        first.filter(|text| !with_timers_first(&read(&script(text).unwrap().table).unwrap()));
     let pictures = first.map(|text| program(&["svg", "a", "b"], text.as_bytes()));
     assert_eq!(digest(pictures), PICTURES);
 }
 
-const PICTURES: u64 = 0xf75c_29ac_725a_6722;
+const PICTURES: u64 = 0x93bf_817f_7a4b_2232;
 
 /// A table without timers has the same picture in both editions, but for the words that say which.
 #[test]
@@ -160,6 +162,25 @@ fn parts_show_what_falls_in_them() {
     assert_eq!(shown(5, 7), [2, 1, 1, 0, 1, 0, 1]);
     assert_eq!(shown(8, 9), [1, 0, 1, 0, 1, 1, 0]);
     assert_eq!(shown(0, 5), [2, 2, 0, 1, 0, 1, 0]);
+}
+
+/// U5: the timer of P6, activated at 0, is due at 4, in edition 2 at 5.
+#[test]
+fn timers_are_due_by_their_own_bound() {
+    let pair = full(vec![timer(10, &[2]), subscription(20, &[3])]);
+    let due = |edition, last: usize| {
+        let table = in_edition(edition, &pair);
+        let mut ticks = vec![tick(0, 2); 6];
+        ticks[0].mask = 1;
+        let history = play(&encode(&table), &ticks);
+        let lines = |shown| {
+            let picture = svg_part(&table, &history, &[], shown);
+            count(&picture, &["<line", "#2e7d32"])
+        };
+        lines(0..last + 1) > lines(0..0)
+    };
+    assert_eq!([2, 3, 4].map(|last| due(1, last)), [false, true, true]);
+    assert_eq!([2, 3, 4].map(|last| due(2, last)), [false, false, true]);
 }
 
 /// A bound falls on the moment at which a tick ends or begins; an arrival in the tick behind the

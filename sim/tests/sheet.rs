@@ -1,11 +1,13 @@
-//! The analyser: literal and faster searches, refusals 15 to 17.
+//! The analyser: literal and faster searches, refusals 15 to 17. The bounds of U5 have tests of
+//! their own; what is said of the first bound here is document 01's.
 
 mod common;
 use common::*;
 use sim::generate::tables::{any_shape, table, Shape};
 use sim::random::Random;
 use sim::sheet::{
-    analyse, arrivals, bound_literal, bounds, cost, delayed_supply, supply, window, window_literal,
+    analyse, arrivals, bounds, cost, delayed_supply, first_bound_literal, first_bounds, supply,
+    window, window_literal,
 };
 use sim::table::{encode, Kind, Table};
 use std::iter::repeat;
@@ -39,9 +41,9 @@ fn faster_searches_agree_with_the_literal_ones() {
         assert_eq!(window(&table), window_literal(&table));
         if let Some(window) = window(&table) {
             let literal: Vec<u64> = (1..=table.count())
-                .map(|index| bound_literal(&table, index, window))
+                .map(|index| first_bound_literal(&table, index, window))
                 .collect();
-            assert_eq!(bounds(&table, window), literal);
+            assert_eq!(first_bounds(&table, window), literal);
             compared += 1;
             late += u64::from(table.delay > 0);
         }
@@ -65,12 +67,13 @@ fn finish_does_not_fall_and_stays_within_the_window() {
             assert!(times.windows(2).all(|pair| pair[0] <= pair[1]));
             assert!(times.iter().all(|&time| 1 <= time && time <= window));
             let longest = (0..window).zip(&times).map(|(a, &time)| time - a).max();
-            assert_eq!(longest, Some(bound_literal(&table, index, window)));
+            assert_eq!(longest, Some(first_bound_literal(&table, index, window)));
         }
     }
 }
 
-/// U1: the inequalities are one and the same, so window, bounds and refusals are.
+/// U1: the inequalities are one and the same, so window, first bounds and refusals are. With U5 the
+/// row differs, but for timers alone.
 #[test]
 fn same_sheet_in_both_editions() {
     let mut random = Random::new(27);
@@ -79,9 +82,16 @@ fn same_sheet_in_both_editions() {
         let shape = any_shape(&mut random);
         let mut table = table(&mut random, shape);
         table.horizon = random.range(1, 4_000);
-        let first = sheet(&in_edition(1, &table));
-        assert_eq!(first, sheet(&in_edition(2, &table)));
-        accepted += u64::from(first.is_ok());
+        let [first, second] = [1, 2].map(|edition| sheet(&in_edition(edition, &table)));
+        assert_eq!(first.as_ref().err(), second.as_ref().err());
+        let (Ok((window, row)), Ok((other, present))) = (first, second) else {
+            continue;
+        };
+        assert_eq!((window, &present), (other, &first_bounds(&table, window)));
+        for (callback, (bound, present)) in table.callbacks.iter().zip(row.iter().zip(&present)) {
+            assert!(bound == present || callback.kind == Kind::Timer && bound < present);
+        }
+        accepted += 1;
     }
     assert!(accepted > 200);
 }
@@ -174,11 +184,16 @@ fn cases_with_a_delay() {
     assert_eq!(late(6, &burst(&[4, 6])), Ok((18, vec![11])));
     // P6: both once, until the timer's second beat is in the window.
     let pair = full(vec![timer(10, &[2]), subscription(20, &[3])]);
-    assert_eq!(late(5, &pair), Ok((10, vec![10, 10])));
-    assert_eq!(late(6, &pair), Ok((13, vec![11, 13])));
-    // P7: s(17) = 5.
+    let second = in_edition(2, &pair);
+    assert_eq!(late(5, &second), Ok((10, vec![10, 10])));
+    assert_eq!(late(6, &second), Ok((13, vec![11, 13])));
+    // U5: the own window of the timer, for 2 + 2, still ends before its second beat.
+    assert_eq!(late(5, &pair), Ok((10, vec![9, 10])));
+    assert_eq!(late(6, &pair), Ok((13, vec![10, 13])));
+    // P7: s(17) = 5, and s(13) = 4.
     let partial = supplied(2, 5, vec![timer(50, &[2]), subscription(100, &[3])]);
-    assert_eq!(late(4, &partial), Ok((21, vec![21, 21])));
+    assert_eq!(late(4, &in_edition(2, &partial)), Ok((21, vec![21, 21])));
+    assert_eq!(late(4, &partial), Ok((21, vec![17, 21])));
     // P8: at exact load a delay is never made good.
     let exact = full(vec![subscription(2, &[2])]);
     assert_eq!(late(1, &exact), Err(refusal(15, 0)));
@@ -278,10 +293,12 @@ fn sums_need_64_bits() {
     assert_eq!(supply(1, 60_000, 119_999), 1);
 }
 
-/// Document 01, 'The sheet': followers have the head's arrivals, and bounds from its activation.
+/// Document 01, 'The sheet': followers have the head's arrivals, and bounds from its activation. The
+/// timer waits for 2 ticks of the client at most (U5).
 #[test]
 fn chain_is_measured_from_its_head() {
-    assert_eq!(sheet(&chain()), Ok((6, vec![6, 6, 6])));
+    assert_eq!(sheet(&in_edition(2, &chain())), Ok((6, vec![6, 6, 6])));
+    assert_eq!(sheet(&chain()), Ok((6, vec![3, 6, 6])));
 }
 
 #[test]

@@ -9,17 +9,17 @@ use sim::table::encode;
 use sim::text::{from_hex, hex, script, script_text};
 use std::ops::Range;
 
-/// The program's print of P6.
+/// The program's print of P6, with the timer's bound of U5.
 #[test]
 fn sheet_of_p6() {
     let table = full(vec![timer(10, &[2]), subscription(20, &[3])]);
     let bytes = encode(&table);
-    assert_eq!(program(&["sheet"], &bytes), "window 5\n1 5\n2 5\n");
+    assert_eq!(program(&["sheet"], &bytes), "window 5\n1 4\n2 5\n");
     assert_eq!(program(&["sheet"], &bytes[3..]), "refused 2 0\n");
     let lines = format!("{}\n\n{}\n", hex(&bytes), hex(&bytes[..20]));
     assert_eq!(
         program(&["sheets"], lines.as_bytes()),
-        "window 5 5 5\nrefused 1 0\nrefused 4 0\n"
+        "window 5 4 5\nrefused 1 0\nrefused 4 0\n"
     );
 }
 

@@ -7,4 +7,5 @@ pub mod Ticks
 pub mod Analysed
 pub mod Unrefused
 pub mod Conclusions
+pub mod Timers
 pub mod Guarantee

@@ -130,7 +130,7 @@ module _ (tb : Table) (analysed : Analysed tb) (h : List Tick) (short : length h
       go (inl l) = ap (λ (b : Bool). given b 1) (none-past i u l)
       go (inr l) = given-no (has ((tickAt h u) .mask) i) 1 (λ y. head-unfed tb i (holds _ (w .heads i u l y .1)) p hp x)
 
-  flows : (i t : ℕ) → i < n → activatedTo tb h i t ≡ sum t ((events h free) .arrives i) + fed (linked tb) n (λ p. activatedTo tb h p t) i
+  pub flows : (i t : ℕ) → i < n → activatedTo tb h i t ≡ sum t ((events h free) .arrives i) + fed (linked tb) n (λ p. activatedTo tb h p t) i
   unfolding events
   flows i t l = chain-in n (linked tb) (headOf tb) (λ i u. given (has ((tickAt h u) .mask) i) 1) (chains tb (analysed .sound)) heads-only i t l
 

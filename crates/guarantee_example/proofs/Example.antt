@@ -1,4 +1,4 @@
--- The claim is not empty: the tables and histories of specs/Example, one of each edition and one behind a delay, meet its premises, by computation, so its conclusions hold of them.
+-- The claim is not empty: the tables and histories of specs/Example, one of each edition, one behind a delay and one that holds timers up, meet its premises, by computation, so its conclusions hold of them.
 --   Computed, computed   what the definitions compute: results, row, that the history is within the curves, and the completion that meets a bound
 --   guaranteed, in-time  the guarantee of such a history, and the completion it has promised; `meets` in Computed says that this one comes at its bound, to the tick
 use mathlib.Core.Path.{_≡_, refl, subst}
@@ -23,13 +23,14 @@ use Rattle.curves.specs.Demand.{limit}
 use Rattle.table.specs.Values.{horizonOf, placed}
 use Rattle.table.specs.Walk.{walk}
 use Rattle.table.specs.Links.{linked, named, isHead, onLoop, nextAfter, foreign}
-use Rattle.priority.specs.Priority.{foremostFrom}
+use Rattle.priority.specs.Priority.{precedes, foremostFrom}
 use Rattle.chains.specs.Chains.{feeder, headFrom, headOf}
 use Rattle.link_rules.specs.LinkRules.{arrivalsFault, linksFault}
 use Rattle.rules.specs.Rules.{headFault, supplyFault, entriesFault, unusedFault, recordFault, recordsFrom, bodyFault, faultOf}
 use Rattle.reader.specs.Format.{recordAt, spareAt, tableAt, sparesAt, wholeFault, readFault, readOf}
 use Rattle.windows.specs.Window.{covered, coveredFor, window, finish, bound}
-use Rattle.windows.specs.Bounds.{arrivalsOf, costOf, supplyOf, windowOf, boundOfAll}
+use Rattle.windows.specs.Bounds.{arrivalsOf, costOf, supplyOf, windowOf, boundOfAll, arrivalsIn, windowIn, boundIn}
+use Rattle.levels.specs.Levels.{overtakes, lowerThan, blockingBy, levelOf, windowOfLevel, boundOfLevel, boundOf}
 use Rattle.sheet.specs.Sheet.{tooManyAt, sheetFault, analysisFault, boundsTo, rowOf}
 use Rattle.queues.specs.Queues.{arrivedTo, arrived, counted, fullWith}
 use Rattle.turns.specs.Choosing.{polled, gatheredOf, choose}
@@ -43,7 +44,7 @@ use Rattle.guarantee.specs.History.{Result, results, tickAt, resultAt, complete
 use Rattle.guarantee.specs.Within.{WithinCurves}
 use Rattle.guarantee.specs.Claim.{Guaranteed}
 use Rattle.guarantee.proofs.Guarantee.{guarantee}
-use Rattle.guarantee_example.specs.Example.{Case, one, two, delayed}
+use Rattle.guarantee_example.specs.Example.{Case, one, two, delayed, held-up}
 use Rattle.guarantee_example.proofs.Decide.{everyWindow, arrivalsHold, supplyHolds, costsHold, headsHold, offerHolds, withinTest, decided}
 
 -- a row of sixteen places, as the host lends it
@@ -72,9 +73,10 @@ pub record Computed (c : Case) : Type 0 where
   pub meets : completion (c .says) (c .slot) (c .nth) (due c)
 
 -- all of it by computation, of each
-pub computed : Computed one × Computed two × Computed delayed
-unfolding has withBit withoutBit gather countOf numbers run zeros fieldsAt fieldBytes over sum least largest every some ceiling arrivals cost supply delayedSupply limit horizonOf walk linked named isHead onLoop nextAfter foreign foremostFrom feeder headFrom headOf arrivalsFault linksFault headFault supplyFault entriesFault unusedFault recordFault recordsFrom bodyFault faultOf recordAt spareAt placed tableAt sparesAt wholeFault readFault readOf covered coveredFor window finish bound arrivalsOf costOf supplyOf windowOf boundOfAll tooManyAt sheetFault analysisFault boundsTo rowOf arrivedTo arrived counted fullWith polled gatheredOf choose turnOf stepOf tableFault beyondWrong countWrong cacheWrong slotWrong runWrong fresh faulty unsupplied instanceAt left served effect full tickFault refused tickOf startOf results tickAt resultAt completesAt releasesAt releasedBy activatedAt activations activation startsAt completions completion one two delayed everyWindow arrivalsHold supplyHolds costsHold headsHold offerHolds withinTest
+pub computed : Computed one × Computed two × Computed delayed × Computed held-up
+unfolding has withBit withoutBit gather countOf numbers run zeros fieldsAt fieldBytes over sum least largest every some ceiling arrivals cost supply delayedSupply limit horizonOf walk linked named isHead onLoop nextAfter foreign foremostFrom feeder headFrom headOf arrivalsFault linksFault headFault supplyFault entriesFault unusedFault recordFault recordsFrom bodyFault faultOf recordAt spareAt placed tableAt sparesAt wholeFault readFault readOf covered coveredFor window finish bound arrivalsOf costOf supplyOf windowOf boundOfAll arrivalsIn windowIn boundIn precedes overtakes lowerThan blockingBy levelOf windowOfLevel boundOfLevel boundOf tooManyAt sheetFault analysisFault boundsTo rowOf arrivedTo arrived counted fullWith polled gatheredOf choose turnOf stepOf tableFault beyondWrong countWrong cacheWrong slotWrong runWrong fresh faulty unsupplied instanceAt left served effect full tickFault refused tickOf startOf results tickAt resultAt completesAt releasesAt releasedBy activatedAt activations activation startsAt completions completion one two delayed held-up everyWindow arrivalsHold supplyHolds costsHold headsHold offerHolds withinTest
 computed = (
+  record { replied = refl; accepted = refl; written = refl; within = refl; short = tt; known = tt; activated = (tt, refl); reached = tt; meets = (tt, refl) },
   record { replied = refl; accepted = refl; written = refl; within = refl; short = tt; known = tt; activated = (tt, refl); reached = tt; meets = (tt, refl) },
   record { replied = refl; accepted = refl; written = refl; within = refl; short = tt; known = tt; activated = (tt, refl); reached = tt; meets = (tt, refl) },
   record { replied = refl; accepted = refl; written = refl; within = refl; short = tt; known = tt; activated = (tt, refl); reached = tt; meets = (tt, refl) },
@@ -118,3 +120,12 @@ in-time-delayed = in-time delayed (computed .2)
 pub tight-delayed : completion (delayed .says) 1 1 10
 unfolding delayed
 tight-delayed = computed .2 .meets
+
+-- timers held up: the second timer's first completion is there at 10 or earlier, and it is at 10; the first timer's is at 7, its bound too
+pub in-time-held-up : (t : ℕ) × (t ≤ 10) × completion (held-up .says) 1 1 t
+unfolding held-up
+in-time-held-up = in-time held-up (computed .3)
+
+pub tight-held-up : completion (held-up .says) 1 1 10
+unfolding held-up
+tight-held-up = computed .3 .meets

@@ -1,12 +1,17 @@
--- A table and a history within its curves for each edition, and one behind a delay, as data: the claim is empty for none of them (proofs/Example).
+-- A table and a history within its curves for each edition, one behind a delay, and one that holds timers up, as data: the claim is empty for none of
+-- them (proofs/Example).
 -- Edition 1: supply of 4 ticks in 5; a timer (T 14, J 8, d 6, entry 2), a subscription (T 17, J 12, d 8, entries 2, 3) and a service that it activates (entry 1).
--- The window is 13, the bounds are 8, 11 and 11. The service finishes for the first time at 13, its head's activation being at 2: just the bound.
+-- The window is 13, the bounds are 5, 11 and 11. The service finishes for the first time at 13, its head's activation being at 2: just the bound.
 -- Edition 2: the same supply; a timer (T 12, J 14, d 3, entry 2) and two subscriptions (T 29, J 5, d 7, entry 1; T 25, J 9, d 11, entries 1, 2).
 -- The window is 9, the bounds are 6, 9 and 9. The timer's second activation, at 3, finds both subscriptions in the cache; it waits until they have run and
 -- a polling point takes it at 7, and finishes at 9: just the bound. In edition 1 it would have run at 4.
 -- Behind a delay of 3: the same supply, so 3 + 2 × (5 - 4) = 5 ticks without any at worst; a timer (T 30, d 30, entry 2) and a subscription that it activates
--- (entry 1). The window is 8, the bounds are 8 and 8. These 5 ticks begin with the timer's activation at 2, with the supply untouched before; the subscription
--- finishes at 10: just the bound. Without the delay the history would not be within the curves, and the window and the bounds would be 5.
+-- (entry 1). The window is 8, the bounds are 7 and 8. These 5 ticks begin with the timer's activation at 2, with the supply untouched before; the subscription
+-- finishes at 10: just the bound. Without the delay the history would not be within the curves, the window would be 5, the bounds 4 and 5.
+-- Held up: the same supply, without delay; two timers (T 12, d 12, entry 1; T 15, d 15, entry 2) and a subscription (T 30, d 30, entry 4). The window is 10,
+-- the bounds are 6, 9 and 10: B is 3 for both timers, what is left of the subscription when it has just started. It starts at 0; both timers are activated at
+-- 1, when the supply fails for two ticks, and wait until it has finished. The first finishes at 7, the second at 10: each just at its bound. Over all callbacks
+-- both had 10, which no history of the first can meet.
 use mathlib.Core.Bool.{true, false}
 use mathlib.Core.List.{List, [], _∷_, _++_}
 use Prim.Native.Nat.{ℕ}
@@ -50,6 +55,9 @@ none = record { outcome = Answered NoSupply; started = false; polled = false; ga
 abbrev idle : Result
 idle = record { outcome = Answered Idle; started = false; polled = true; gathered = 0 }
 
+abbrev goes-on : ℕ → ℕ → Result
+goes-on i k = record { outcome = Answered (Ran i k); started = false; polled = false; gathered = 0 }
+
 abbrev ends : ℕ → ℕ → Result
 ends i k = record { outcome = Answered (Finished i k); started = false; polled = false; gathered = 0 }
 
@@ -79,7 +87,7 @@ one = record {
       ∷ ends 1 2 ∷ polls-ends 2 2 2 ∷ starts-ends 3 1 ∷ none ∷ polls-ends 3 2 1 ∷ idle ∷ idle ∷ idle ∷ none ∷ idle
       ∷ idle ∷ idle ∷ starts 1 3 ∷ none ∷ ends 1 3 ∷ polls-starts 2 3 1 ∷ ends 2 3 ∷ polls-ends 3 3 1 ∷ none ∷ idle
       ∷ [];
-  row = 8 ∷ 11 ∷ 11 ∷ replicate 13 0;
+  row = 5 ∷ 11 ∷ 11 ∷ replicate 13 0;
   slot = 2;
   nth = 1;
   activated = 2;
@@ -109,8 +117,22 @@ delayed = record {
   bytes = header 1 2 3 ++ (callback 1 2 1 30 0 30 2 0 ++ callback 2 0 1 0 0 0 1 0);
   ticks = on 0 1 ∷ on 0 1 ∷ off 1 ∷ off 0 ∷ off 0 ∷ off 0 ∷ off 0 ∷ on 0 2 ∷ on 0 1 ∷ on 0 1 ∷ on 0 1 ∷ on 0 1 ∷ [];
   says = idle ∷ idle ∷ none ∷ none ∷ none ∷ none ∷ none ∷ starts 1 1 ∷ ends 1 1 ∷ polls-ends 2 1 1 ∷ idle ∷ idle ∷ [];
-  row = 8 ∷ 8 ∷ replicate 14 0;
+  row = 7 ∷ 8 ∷ replicate 14 0;
   slot = 1;
   nth = 1;
   activated = 2;
+}
+
+-- the subscription is activated at 0, both timers at 1, in the first of two ticks without supply; the second timer's bound is met, and so is the first's
+unfoldable pub held-up : Case
+held-up = record {
+  bytes = header 1 3 0 ++ (callback 1 0 1 12 0 12 1 0 ++ (callback 1 0 1 15 0 15 2 0 ++ callback 2 0 1 30 0 30 4 0));
+  ticks = on 4 4 ∷ off 3 ∷ off 0 ∷ on 0 1 ∷ on 0 1 ∷ on 0 1 ∷ on 0 1 ∷ off 0 ∷ on 0 2 ∷ on 0 1 ∷ on 0 1 ∷ on 0 1 ∷ [];
+  says =
+      polls-starts 3 1 1 ∷ none ∷ none ∷ goes-on 3 1 ∷ goes-on 3 1 ∷ ends 3 1 ∷ starts-ends 1 1 ∷ none ∷ starts 2 1 ∷ ends 2 1 ∷ idle ∷ idle
+      ∷ [];
+  row = 6 ∷ 9 ∷ 10 ∷ replicate 13 0;
+  slot = 1;
+  nth = 1;
+  activated = 1;
 }

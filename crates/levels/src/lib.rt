@@ -37,7 +37,7 @@ pub fn window(t: Table, heads: [u8; 16]) -> u32
 }
 
 // The bound of slot x over all callbacks.
-pub fn bound_of_all(t: Table, heads: [u8; 16], x: usize, window: u32) -> u32
+fn bound_of_all(t: Table, heads: [u8; 16], x: usize, window: u32) -> u32
     requires { ⌜ Headed t heads × (x < t .count) × (window ≡ windowOf t) × (window ≤ longest) ⌝ }
     ensures { λ r. ⌜ (r ≡ boundOfAll t x) × (r ≤ longest) ⌝ }
 {

@@ -22,7 +22,8 @@ use Rattle.sheet.specs.Sheet.{tooManyAt, sheetFault, analysisFault, rowO
 use Rattle.sheet.proofs.RowLaws.{row-at}
 use Rattle.sheet.proofs.RefusalLaws.{row-first, reader-first}
 use Rattle.table.proofs.RefusalLaws.{both-passed, lowest-zero}
-use Rattle.windows.specs.Bounds.{arrivalsOf, windowOf, boundOfAll}
+use Rattle.windows.specs.Bounds.{arrivalsOf, windowOf}
+use Rattle.levels.specs.Levels.{boundOf}
 use Rattle.sheet.proofs.CrowdedLaws.{crowded}
 
 -- ---- a table's sheet
@@ -67,6 +68,6 @@ module _ (b : List ℕ) (k : ℕ) (ok : (analysisFault b k) .number ≡ 0) where
   analysed-sheet = both-passed (readFault b) (sheetFault (tableAt b)) none .1
 
 -- the reported bound of a callback: what the analyser wrote into its place of the row
-pub analysed-at : (b row : List ℕ) → (analysisFault b (length row)) .number ≡ 0 → (i : ℕ) → i < (tableAt b) .count → getD (rowOf b row) i 0 ≡ boundOfAll (tableAt b) i
+pub analysed-at : (b row : List ℕ) → (analysisFault b (length row)) .number ≡ 0 → (i : ℕ) → i < (tableAt b) .count → getD (rowOf b row) i 0 ≡ boundOf (tableAt b) i
 unfolding rowOf
 analysed-at b row ok i l = rw (eq-eqb ((analysisFault b (length row)) .number) 0 ok, rowOf) (row-at (tableAt b) row ((tableAt b) .count) i l)

@@ -13,7 +13,8 @@ use Rattle.table.specs.Values.{refuse, accepted, orElse, lowestRefused}
 use Rattle.table.specs.Links.{isHead}
 use Rattle.reader.specs.Format.{tableAt, readFault}
 use Rattle.sheet.specs.declared.Sheet.{Sheet}
-use Rattle.windows.specs.Bounds.{arrivalsOf, windowOf, boundOfAll}
+use Rattle.windows.specs.Bounds.{arrivalsOf, windowOf}
+use Rattle.levels.specs.Levels.{boundOf}
 
 -- row 16: the lowest head with more activations in the window than a count holds
 unfoldable pub tooManyAt : Table → ℕ → ℕ
@@ -40,7 +41,7 @@ sheetOf b row =
 -- the bounds of the first i slots
 unfoldable pub boundsTo : Table → ℕ → List ℕ
 boundsTo t zero = []
-boundsTo t (suc i) = boundsTo t i ++ (boundOfAll t i ∷ [])
+boundsTo t (suc i) = boundsTo t i ++ (boundOf t i ∷ [])
 
 -- 'The sheet', the lent row: a bound for each callback in the places of their slots, the rest as it was; at a refusal all of it
 unfoldable pub rowOf : List ℕ → List ℕ → List ℕ

@@ -64,7 +64,7 @@ fn write_bounds(t: Table, heads: [u8; 16], window: u32, row: &mut [u16])
     let n = t.count as usize;
     let mut i: usize = 0;
     while i < n {
-        row[i] = levels::bound_of_all(t, heads, i, window) as u16;
+        row[i] = levels::bound(t, heads, i, window) as u16;
         i += 1;
     }
 }

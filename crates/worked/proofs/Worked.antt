@@ -17,14 +17,15 @@ use Rattle.curves.specs.Demand.{limit}
 use Rattle.table.specs.Values.{horizonOf, placed}
 use Rattle.table.specs.Walk.{walk}
 use Rattle.table.specs.Links.{linked, named, isHead, onLoop, nextAfter, foreign}
-use Rattle.priority.specs.Priority.{foremostFrom}
+use Rattle.priority.specs.Priority.{precedes, foremostFrom}
 use Rattle.chains.specs.Chains.{feeder, headFrom, headOf}
 use Rattle.link_rules.specs.LinkRules.{arrivalsFault, linksFault}
 use Rattle.rules.specs.Rules.{headFault, supplyFault, entriesFault, unusedFault, recordFault, recordsFrom, bodyFault, faultOf}
 use Rattle.reader.specs.Format.{recordAt, spareAt, tableAt, sparesAt, wholeFault, readFault, readOf}
 use Rattle.reader.specs.Written.{recordBytes, recordsBytes, written}
 use Rattle.windows.specs.Window.{covered, coveredFor, window, finish, bound}
-use Rattle.windows.specs.Bounds.{arrivalsOf, costOf, supplyOf, windowOf, boundOfAll}
+use Rattle.windows.specs.Bounds.{arrivalsOf, costOf, supplyOf, windowOf, boundOfAll, arrivalsIn, windowIn, boundIn}
+use Rattle.levels.specs.Levels.{overtakes, lowerThan, blockingBy, levelOf, windowOfLevel, boundOfLevel, boundOf}
 use Rattle.sheet.specs.Sheet.{tooManyAt, sheetFault, analysisFault, sheetOf, boundsTo, rowOf}
 use Rattle.queues.specs.Queues.{arrivedTo, arrived, counted, fullWith}
 use Rattle.turns.specs.Choosing.{polled, gatheredOf, choose}
@@ -58,7 +59,7 @@ each {c} t (List·Memᴰ·head {x = x} {xs = cs} e) =
 each {c} t (List·Memᴰ·tail {x = x} {xs = cs} i) = each (both (same (x .reckoned) (x .paper)) (agree cs) t .1) i
 
 passes : T (agree table)
-unfolding has withBit withoutBit gather countOf numbers run zeros fieldsAt fieldBytes over sum least largest every some ceiling arrivals cost supply delayedSupply limit horizonOf walk linked named isHead onLoop nextAfter foreign foremostFrom feeder headFrom headOf arrivalsFault linksFault headFault supplyFault entriesFault unusedFault recordFault recordsFrom bodyFault faultOf recordAt spareAt placed tableAt sparesAt wholeFault readFault readOf recordBytes recordsBytes written covered coveredFor window finish bound arrivalsOf costOf supplyOf windowOf boundOfAll tooManyAt sheetFault analysisFault sheetOf boundsTo rowOf arrivedTo arrived counted fullWith polled gatheredOf choose turnOf stepOf tableFault beyondWrong countWrong cacheWrong slotWrong runWrong fresh faulty instanceAt left served effect full tickFault tickOf startOf saysOver table same agree
+unfolding has withBit withoutBit gather countOf numbers run zeros fieldsAt fieldBytes over sum least largest every some ceiling arrivals cost supply delayedSupply limit horizonOf walk linked named isHead onLoop nextAfter foreign foremostFrom feeder headFrom headOf arrivalsFault linksFault headFault supplyFault entriesFault unusedFault recordFault recordsFrom bodyFault faultOf recordAt spareAt placed tableAt sparesAt wholeFault readFault readOf recordBytes recordsBytes written covered coveredFor window finish bound arrivalsOf costOf supplyOf windowOf boundOfAll arrivalsIn windowIn boundIn precedes overtakes lowerThan blockingBy levelOf windowOfLevel boundOfLevel boundOf tooManyAt sheetFault analysisFault sheetOf boundsTo rowOf arrivedTo arrived counted fullWith polled gatheredOf choose turnOf stepOf tableFault beyondWrong countWrong cacheWrong slotWrong runWrong fresh faulty instanceAt left served effect full tickFault tickOf startOf saysOver table same agree
 passes = tt
 
 pub reckoned : Reckoned

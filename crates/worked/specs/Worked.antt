@@ -49,10 +49,10 @@ table =
     ∷ P 4 (let t : Table = fullSupply (callback 10 15 2 (4 ∷ []) ∷ []) in sheet t ++ bounds t) (12 ∷ 0 ∷ 0 ∷ 7 ∷ [])
     -- a second entry, less than twice the first
     ∷ P 5 (let t : Table = fullSupply (callback 10 15 2 (4 ∷ 6 ∷ []) ∷ []) in sheet t ++ bounds t) (10 ∷ 0 ∷ 0 ∷ 5 ∷ [])
-    -- a timer and a subscription: the window, no refusal, both bounds
-    ∷ P 6 (let t : Table = fullSupply (timer 10 0 10 (2 ∷ []) ∷ callback 20 0 20 (3 ∷ []) ∷ []) in sheet t ++ bounds t) (5 ∷ 0 ∷ 0 ∷ 5 ∷ 5 ∷ [])
+    -- a timer and a subscription: the window, no refusal, both bounds, the timer's being the second one of document 02's U5; so in P7
+    ∷ P 6 (let t : Table = fullSupply (timer 10 0 10 (2 ∷ []) ∷ callback 20 0 20 (3 ∷ []) ∷ []) in sheet t ++ bounds t) (5 ∷ 0 ∷ 0 ∷ 4 ∷ 5 ∷ [])
     -- both five times as rare, with the supply of P1
-    ∷ P 7 (let t : Table = ofSupply 2 5 (timer 50 0 50 (2 ∷ []) ∷ callback 100 0 100 (3 ∷ []) ∷ []) in sheet t ++ bounds t) (17 ∷ 0 ∷ 0 ∷ 17 ∷ 17 ∷ [])
+    ∷ P 7 (let t : Table = ofSupply 2 5 (timer 50 0 50 (2 ∷ []) ∷ callback 100 0 100 (3 ∷ []) ∷ []) in sheet t ++ bounds t) (17 ∷ 0 ∷ 0 ∷ 13 ∷ 17 ∷ [])
     -- a callback that takes all ticks: the window; with half of the ticks there is none, refusal 15
     ∷ P 8 (sheet (fullSupply (callback 2 0 2 (2 ∷ []) ∷ []))) (2 ∷ 0 ∷ 0 ∷ [])
     ∷ P 8 (sheet (ofSupply 1 2 (callback 2 0 2 (2 ∷ []) ∷ []))) (0 ∷ 15 ∷ 0 ∷ [])

@@ -1,7 +1,8 @@
 //! Histories within the curves that press against them, and others.
 
-use crate::history::History;
-use crate::machine::{bit, start, Answer, State, Tick};
+use super::blocking::{timers, Blocking, Stage};
+use crate::history::{named, History};
+use crate::machine::{bit, start, State, Tick};
 use crate::random::Random;
 use crate::table::{encode, Table, LARGEST, MOST_CALLBACKS};
 use crate::trackers::{longest_starvation, ArrivalTracker, CostTracker, SupplyTracker};
@@ -28,6 +29,8 @@ pub struct Style {
     pub quiet: u64,
     /// Whether unsupplied ticks keep to such spans too, the first of them from `starve_from` on.
     pub fed: bool,
+    /// Where timers are blocked: which, by whom and when.
+    pub blocking: Option<Blocking>,
 }
 
 impl Style {
@@ -43,6 +46,7 @@ impl Style {
             busy: 1,
             quiet: 0,
             fed: false,
+            blocking: None,
         }
     }
 
@@ -91,8 +95,17 @@ impl Style {
         style
     }
 
-    /// One of the five, with phases and rests of about `span`. A table without a delay has one of
-    /// the four that there were before delays, so that seeds give what they gave.
+    /// Greedy from the tick on in which a timer is blocked, in the stages of `Blocking`.
+    pub fn blocking(random: &mut Random, table: &Table, span: u64, timer: usize) -> Style {
+        Style {
+            blocking: Some(Blocking::new(random, table, span, timer)),
+            ..Style::greedy(table)
+        }
+    }
+
+    /// One of the five that do not look for timers, with phases and rests of about `span`. A table
+    /// without a delay has one of the four that there were before delays, so that seeds give what
+    /// they gave.
     pub fn any(random: &mut Random, table: &Table, span: u64) -> Style {
         let last = if table.delay == 0 { 3 } else { 4 };
         match random.range(0, last) {
@@ -105,18 +118,24 @@ impl Style {
     }
 
     /// Greedy at turn 0; then in turn phased within two ticks, phased within `span`, resting, for a
-    /// table with a delay starving, and loose.
+    /// table with a delay starving, for one of edition 1 with timers blocking, and loose. The timers
+    /// are blocked one after the other, each at one such turn.
     pub fn of_turn(random: &mut Random, table: &Table, span: u64, turn: u64) -> Style {
         if turn == 0 {
             return Style::greedy(table);
         }
-        let styles = if table.delay == 0 { 4 } else { 5 };
-        match turn % styles {
+        let (round, place) = (turn / styles(table), turn % styles(table));
+        match place {
             1 => Style::phased(random, table, 2),
             2 => Style::phased(random, table, span),
             3 => Style::resting(random, table, span),
-            4 => Style::starving(random, table, span),
-            _ => Style::loose(random, table, span),
+            4 if table.delay > 0 => Style::starving(random, table, span),
+            0 => Style::loose(random, table, span),
+            _ => {
+                let timers = timers(table);
+                let timer = timers[round as usize % timers.len()];
+                Style::blocking(random, table, span, timer)
+            }
         }
     }
 
@@ -136,6 +155,20 @@ impl Style {
         let since = time.checked_sub(self.starve_from);
         since.is_some_and(|since| !self.fed || self.in_busy_span(since))
     }
+}
+
+/// How many styles take turns behind the first history: four for every table, one more with a delay,
+/// and one more where timers can be blocked.
+pub fn styles(table: &Table) -> u64 {
+    4 + u64::from(table.delay > 0) + u64::from(!timers(table).is_empty())
+}
+
+/// The turns that show every style twice, behind the first history, and each timer blocked at least
+/// once.
+pub fn turns(table: &Table) -> Vec<u64> {
+    let styles = styles(table);
+    let more = (2..timers(table).len() as u64).map(|round| round * styles + styles - 1);
+    (0..=2 * styles).chain(more).collect()
 }
 
 /// A rest, without arrivals and in full supply, after which every burst is whole again, and with
@@ -166,6 +199,8 @@ struct Driver<'a> {
     /// By place of the callback.
     arrivals: Vec<ArrivalTracker>,
     costs: Vec<CostTracker<'a>>,
+    /// Where timers are blocked; otherwise all press from the beginning.
+    stage: Stage,
 }
 
 /// A history within the curves, of `length` ticks.
@@ -177,17 +212,40 @@ pub fn within(random: &mut Random, table: &Table, style: &Style, length: u64) ->
         supply: SupplyTracker::new(table),
         arrivals: table.callbacks.iter().map(ArrivalTracker::new).collect(),
         costs: table.callbacks.iter().map(CostTracker::new).collect(),
+        stage: style.blocking.map_or(Stage::FREE, Blocking::first_stage),
     };
     for time in 0..length {
+        driver.advance(style, time);
         let mask = driver.mask(random, style, time);
-        let starved =
-            style.starves(time) && driver.supply.may_starve() && random.chance(style.starve);
+        let starves = style.starves(time) && driver.stage.presses();
+        let starved = starves && driver.supply.may_starve() && random.chance(style.starve);
         driver.take(random, style, mask, !starved);
     }
     driver.history
 }
 
 impl Driver<'_> {
+    /// Whether nothing waits, nor runs.
+    fn idle(&self) -> bool {
+        self.state.waiting.iter().all(|&waiting| waiting == 0)
+    }
+
+    /// The stage of this tick, where timers are blocked.
+    fn advance(&mut self, style: &Style, time: u64) {
+        if let Some(blocking) = &style.blocking {
+            let last = self.history.replies.last();
+            let started = last.filter(|reply| reply.started).and_then(named);
+            let started = started.map(|(callback, _)| callback);
+            self.stage = blocking.stage(self.stage, time, self.idle(), started);
+        }
+    }
+
+    /// Whether the stage lets this head arrive.
+    fn lets(&self, style: &Style, head: usize) -> bool {
+        let blocking = style.blocking.as_ref();
+        blocking.is_none_or(|blocking| blocking.lets(self.stage, head, self.idle()))
+    }
+
     /// The arrivals of this tick.
     fn mask(&mut self, random: &mut Random, style: &Style, time: u64) -> u16 {
         let mut mask = 0;
@@ -195,9 +253,9 @@ impl Driver<'_> {
             return mask;
         }
         for &head in &self.heads {
+            let due = time >= style.phases[head - 1] && self.lets(style, head);
             let tracker = &mut self.arrivals[head - 1];
-            let due = time >= style.phases[head - 1] && tracker.permits(time);
-            if due && random.chance(style.arrive) {
+            if due && tracker.permits(time) && random.chance(style.arrive) {
                 mask |= bit(head);
                 tracker.activate(time);
             }
@@ -214,11 +272,13 @@ impl Driver<'_> {
         };
         let reply = self.state.clone().tick(probe).reply;
         let mut cost = *random.pick(&[1, LARGEST]);
-        if let (true, Ok(Answer::Ran { callback, .. } | Answer::Finished { callback, .. })) =
-            (reply.started, reply.outcome)
-        {
+        if let (true, Some((callback, _))) = (reply.started, named(&reply)) {
             let most = self.costs[callback - 1].largest();
-            cost = if random.chance(style.costly) {
+            let blocking = style.blocking.as_ref();
+            let spares = blocking.is_some_and(|blocking| blocking.spares(self.stage, callback));
+            cost = if spares {
+                1
+            } else if random.chance(style.costly) {
                 most
             } else {
                 random.range(1, most)

@@ -1,9 +1,10 @@
 //! Of many histories within the curves the one that comes nearest to a bound.
 
-use super::histories::{span, within, Style};
+use super::histories::{span, styles, within, Style};
 use crate::history::{longest_response, History};
 use crate::random::Random;
 use crate::sheet::Sheet;
+use crate::table::Table;
 
 /// So many histories are tried, but only as many as have so many ticks together, and every style at
 /// least once.
@@ -12,8 +13,9 @@ const TICKS_TOGETHER: u64 = 500_000;
 const FEWEST_TRIES: u64 = 6;
 
 /// How many histories of `length` ticks are tried.
-pub fn tries(length: u64) -> u64 {
-    (TICKS_TOGETHER / length.max(1)).clamp(FEWEST_TRIES, MOST_TRIES)
+pub fn tries(table: &Table, length: u64) -> u64 {
+    let fewest = FEWEST_TRIES.max(1 + styles(table));
+    (TICKS_TOGETHER / length.max(1)).clamp(fewest, MOST_TRIES)
 }
 
 /// A part of a bound: a longest response and the bound.
@@ -55,7 +57,7 @@ pub fn worst(random: &mut Random, sheet: &Sheet, length: u64) -> History {
     };
     let mut worst = drawn(0);
     let mut largest = largest_share(sheet, &worst);
-    for turn in 1..tries(length) {
+    for turn in 1..tries(&sheet.table, length) {
         let history = drawn(turn);
         let share = largest_share(sheet, &history);
         if share.exceeds(largest) {

@@ -160,6 +160,31 @@ pub fn without_delays(seed: u64) -> bool {
     }
 }
 
+/// The timers of edition 1, as a number; 0 for a table of edition 2.
+pub fn timers_first(table: &Table) -> u64 {
+    let timers = table.callbacks.iter().filter(|c| c.kind == Kind::Timer);
+    match table.edition {
+        1 => timers.count() as u64,
+        _ => 0,
+    }
+}
+
+/// Whether U5 gives the table other bounds and histories.
+pub fn with_timers_first(table: &Table) -> bool {
+    timers_first(table) > 0
+}
+
+/// The table that `sim check` draws for this seed.
+pub fn checked_table(seed: u64) -> Table {
+    let mut random = Random::new(seed);
+    let shape = if random.chance(95) {
+        Shape::Small
+    } else {
+        Shape::Long
+    };
+    table(&mut random, shape)
+}
+
 /// A number that stands for a text (FNV-1a), to compare it with one of before.
 pub fn digest(texts: impl IntoIterator<Item = String>) -> u64 {
     let mut digest = 0xcbf2_9ce4_8422_2325;

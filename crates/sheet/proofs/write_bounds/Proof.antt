@@ -26,7 +26,7 @@ kept c =
 loop-holds : tie.Need-loop-holds Inv-loop μ-loop
 loop-holds c = (omega arith, row-start _ _)
 
-bound-requires : tie.Need-bound-of-all-requires Inv-loop μ-loop
+bound-requires : tie.Need-bound-requires Inv-loop μ-loop
 bound-requires c κs =
     let start = c .before .before .before .before in
     (start .pre .0, c .loop-test .taken, start .pre .1, start .pre .2)
@@ -38,7 +38,7 @@ loop-again : tie.Need-loop-again Inv-loop μ-loop
 loop-again c =
     let start = c .before .before .before .before .before in (
       omega arith,
-      ap₂ (λ (l : List ℕ) (v : ℕ). set l (c .before .before .loop .i) v) (c .before .before .loop .inv .1) (c .bound-of-all .ensures .0)
+      ap₂ (λ (l : List ℕ) (v : ℕ). set l (c .before .before .loop .i) v) (c .before .before .loop .inv .1) (c .bound .ensures .0)
           ∙ row-more (start .args .t) _ (c .before .before .loop .i) (omega (arith, start .pre .0 .sound .few)),
     )
 
