@@ -97,10 +97,10 @@ fn larger(a: u32, b: u32) -> u32
 fn smaller(a: u32, b: u32) -> u32
     ensures { λ r. ⌜ r ≡ min a b ⌝ }
 {
-    if a < b {
-        return a;
+    if b < a {
+        return b;
     }
-    b
+    a
 }
 
 // What an instance of a mask's slots may take from a level that comes when it has just started: the largest E(1), less the unit that it had.
