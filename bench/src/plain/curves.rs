@@ -48,7 +48,30 @@ pub fn work(table: &Table, heads: &[u8; PLACES], slot: usize, length: u32) -> u6
     cost(&table.callbacks[slot], arrivals(head, length))
 }
 
-pub fn demand_but(table: &Table, heads: &[u8; PLACES], but: usize, length: u32) -> u64 {
-    let slots = (0..table.count).filter(|&slot| slot != but);
-    slots.map(|slot| work(table, heads, slot, length)).sum()
+/// Some callbacks of a table, one bit for each, what others may take from them,
+/// and how long lengths are searched.
+pub struct Level {
+    pub members: u16,
+    pub blocking: u64,
+    pub horizon: u32,
+}
+
+impl Level {
+    /// The level without a slot.
+    pub fn but(&self, slot: usize) -> Level {
+        Level {
+            members: self.members & !(1 << slot),
+            ..*self
+        }
+    }
+}
+
+pub fn demand(table: &Table, heads: &[u8; PLACES], level: &Level, length: u32) -> u64 {
+    let mut sum = level.blocking;
+    let mut left = level.members;
+    while left != 0 {
+        sum += work(table, heads, left.trailing_zeros() as usize, length);
+        left &= left - 1;
+    }
+    sum
 }

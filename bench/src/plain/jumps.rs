@@ -1,22 +1,22 @@
 //! The search by jumps: from a length that is not covered to the least whose
 //! supply is its demand, since no length between them has a smaller demand.
 
-use super::curves::{arrivals, cost, demand_but, reach};
+use super::curves::{arrivals, cost, demand, reach, Level};
 use super::sheet::Search;
 use super::table::{Table, PLACES};
 
 pub struct Jumps;
 
 impl Search for Jumps {
-    fn window(table: &Table, heads: &[u8; PLACES], horizon: u32, looks: &mut u64) -> Option<u32> {
+    fn window(table: &Table, heads: &[u8; PLACES], level: &Level, looks: &mut u64) -> Option<u32> {
         let mut length = 1;
-        while length <= horizon {
+        while length <= level.horizon {
             *looks += 1;
-            let demand = demand_but(table, heads, table.count, length);
-            if demand > horizon.into() {
+            let needed = demand(table, heads, level, length);
+            if needed > level.horizon.into() {
                 return None;
             }
-            let next = reach(table, demand as u32);
+            let next = reach(table, needed as u32);
             if next <= length {
                 return Some(length);
             }
@@ -28,6 +28,7 @@ impl Search for Jumps {
     fn bound(
         table: &Table,
         heads: &[u8; PLACES],
+        level: &Level,
         slot: usize,
         window: u32,
         looks: &mut u64,
@@ -35,7 +36,8 @@ impl Search for Jumps {
         let head = &table.callbacks[usize::from(heads[slot])];
         let mut worst = 0;
         let mut length = 1;
-        let mut others = demand_but(table, heads, slot, length);
+        let rest = level.but(slot);
+        let mut others = demand(table, heads, &rest, length);
         let mut charged = 0;
         for offset in 0..window {
             let count = arrivals(head, offset + 1);
@@ -52,7 +54,7 @@ impl Search for Jumps {
                     break;
                 }
                 length = next;
-                others = demand_but(table, heads, slot, length);
+                others = demand(table, heads, &rest, length);
             }
             worst = worst.max(length.saturating_sub(offset));
         }

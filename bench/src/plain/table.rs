@@ -8,7 +8,7 @@ pub const HEADER: usize = 16;
 pub const RECORD: usize = 32;
 pub const ENTRIES: usize = 8;
 
-const EDITION_ONE: u8 = 1;
+pub const EDITION_ONE: u8 = 1;
 pub const EDITION_TWO: u8 = 2;
 
 pub const TIMER: u8 = 1;
