@@ -3,15 +3,16 @@
 use crate::compare::{Comparison, Offer, Outcome};
 use crate::fence::SEED;
 use crate::layout::{pack, LENGTH};
+use sim::generate::blocking::timers;
 use sim::generate::damage::{damaged, refused_with, NUMBERS};
 use sim::generate::histories::{outside, within, Style};
 use sim::generate::states::{sound, spoil};
 use sim::generate::tables::{any_shape, edition, table, Shape};
 use sim::generate::values::{rooms, values};
-use sim::history::conclusions;
+use sim::history::{conclusions, longest_response, History};
 use sim::machine::{bit, Tick};
 use sim::random::Random;
-use sim::sheet::delayed_supply;
+use sim::sheet::{delayed_supply, first_bounds};
 use sim::table::{encode, read, Callback, Kind, Table, LARGEST, MOST_CALLBACKS};
 use sim::text::hex;
 use sim::trackers::longest_starvation;
@@ -43,7 +44,7 @@ const LENGTHS: [usize; 12] = [0, 1, 2, 16, 527, 528, 632, 639, 641, 656, 1_280, 
 
 type Case = fn(&mut Comparison, &mut Random) -> Outcome;
 
-const CASES: [(&str, Case); 9] = [
+const CASES: [(&str, Case); 10] = [
     ("tables", tables),
     ("longest window", longest_window),
     ("history within the curves", history_within),
@@ -53,6 +54,7 @@ const CASES: [(&str, Case); 9] = [
     ("offers", offers),
     ("lengths", lengths),
     ("writings", writings),
+    ("timers held up", timers_held_up),
 ];
 
 /// Everything that a seed draws.
@@ -258,8 +260,22 @@ fn longest_pause(ticks: &[Tick]) -> u64 {
     pauses.map(|pause| pause.len() as u64).max().unwrap_or(0)
 }
 
-/// Histories within the curves; their replies, and the library's row, are
-/// held to the conclusions of demand 3 too.
+/// A history within the curves: its replies, and the library's row, are held
+/// to the conclusions of demand 3 too.
+fn kept(
+    comparison: &mut Comparison,
+    random: &mut Random,
+    table: &Table,
+    row: &[u16],
+    history: &History,
+) -> Outcome {
+    play(comparison, random, table, history.ticks.iter().map(offered))?;
+    let bounds: Vec<u64> = row.iter().map(|&bound| bound.into()).collect();
+    conclusions(table, &bounds, history)
+        .map_err(|violation| format!("{violation:?}\ntable {}", hex(&encode(table))))
+}
+
+/// Histories within the curves, in all the ways that do not look for timers.
 fn history_within(comparison: &mut Comparison, random: &mut Random) -> Outcome {
     for (shape, length) in [(Shape::Small, 600), (Shape::Small, 600), (Shape::Long, 800)] {
         let (table, window, row) = accepted(comparison, random, shape)?;
@@ -268,15 +284,30 @@ fn history_within(comparison: &mut Comparison, random: &mut Random) -> Outcome {
         let worst = longest_starvation(&table);
         let starved = table.delay > 0 && longest_pause(&history.ticks) == worst;
         comparison.totals.starved += u64::from(starved);
-        play(
-            comparison,
-            random,
-            &table,
-            history.ticks.iter().map(offered),
-        )?;
-        let bounds: Vec<u64> = row.iter().map(|&bound| bound.into()).collect();
-        conclusions(&table, &bounds, &history)
-            .map_err(|violation| format!("{violation:?}\ntable {}", hex(&encode(&table))))?;
+        kept(comparison, random, &table, &row, &history)?;
+    }
+    Ok(())
+}
+
+/// Histories that start the costliest callback of lower priority just before a
+/// timer's beat, for each timer of a table of edition 1; how often the timer's
+/// number in the library's row is met, and how often that of before U5 was.
+fn timers_held_up(comparison: &mut Comparison, random: &mut Random) -> Outcome {
+    let (table, window, row) = loop {
+        let drawn = accepted(comparison, random, Shape::Small)?;
+        if !timers(&drawn.0).is_empty() {
+            break drawn;
+        }
+    };
+    let before = first_bounds(&table, window.into());
+    for timer in timers(&table) {
+        let style = Style::blocking(random, &table, window.into(), timer);
+        let history = within(random, &table, &style, 600);
+        kept(comparison, random, &table, &row, &history)?;
+        let longest = longest_response(&table, timer, &history);
+        comparison.totals.held_up += 1;
+        comparison.totals.met += u64::from(longest == u64::from(row[timer - 1]));
+        comparison.totals.met_before += u64::from(longest == before[timer - 1]);
     }
     Ok(())
 }

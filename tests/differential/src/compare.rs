@@ -35,6 +35,11 @@ pub struct Totals {
     pub histories: u64,
     /// Histories with as many ticks without supply in a row as a delay permits.
     pub starved: u64,
+    /// Histories that hold a timer of edition 1 up, those in which it meets its
+    /// number in the row to the tick, and those in which it meets that of before U5.
+    pub held_up: u64,
+    pub met: u64,
+    pub met_before: u64,
     pub ticks: u64,
     /// Ticks, of all that were taken, on a state of edition 2 with something cached.
     pub second: u64,

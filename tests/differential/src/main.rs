@@ -25,6 +25,8 @@ const LEAST_SECOND: u64 = 200_000;
 const LEAST_DELAYED: u64 = 3_000;
 const LEAST_STARVED: u64 = 100;
 const LEAST_WRITTEN: u64 = 80_000;
+const LEAST_HELD_UP: u64 = 200;
+const LEAST_MET: u64 = 100;
 
 fn main() {
     let words: Vec<String> = std::env::args().skip(1).collect();
@@ -80,7 +82,8 @@ fn complete(totals: &Totals) -> Outcome {
     let many = totals.tables >= LEAST_TABLES && totals.ticks >= LEAST_TICKS;
     let late = totals.delayed >= LEAST_DELAYED && totals.starved >= LEAST_STARVED;
     let written = totals.written >= LEAST_WRITTEN;
-    if !many || !late || !written || totals.second < LEAST_SECOND {
+    let timers = totals.held_up >= LEAST_HELD_UP && totals.met >= LEAST_MET;
+    if !many || !late || !written || !timers || totals.second < LEAST_SECOND {
         return Err(format!("too few compared: {}", summary(totals)));
     }
     let read: Vec<usize> = (0..=14).chain([22]).collect();
@@ -106,7 +109,7 @@ fn complete(totals: &Totals) -> Outcome {
 
 fn summary(totals: &Totals) -> String {
     format!(
-        "{} tables ({} with a sheet, {} of these with a delay), {} ticks ({} on a cache of edition 2), {} histories ({} starved as long as a delay permits), {} damaged states, {} wrong lengths, {} writings ({} of them refused)",
+        "{} tables ({} with a sheet, {} of these with a delay), {} ticks ({} on a cache of edition 2), {} histories ({} starved as long as a delay permits; {} with a timer held up, which meets its bound in {} and that of before U5 in {}), {} damaged states, {} wrong lengths, {} writings ({} of them refused)",
         totals.tables,
         totals.accepted,
         totals.delayed,
@@ -114,6 +117,9 @@ fn summary(totals: &Totals) -> String {
         totals.second,
         totals.histories,
         totals.starved,
+        totals.held_up,
+        totals.met,
+        totals.met_before,
         totals.damaged,
         totals.lengths,
         totals.writings,
