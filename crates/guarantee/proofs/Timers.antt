@@ -3,8 +3,8 @@
 --   urgent                  the level goes first
 --   kept-level              so the bound over the level's demand, with B on top, is kept
 use mathlib.Core.Path.{_≡_, refl, sym, ap, _∙_, subst}
-use mathlib.Core.Logic.{_⊎_, inl, inr, _≢_}
-use mathlib.Core.Bool.{Bool, true, false, not, _&&_, _||_}
+use mathlib.Core.Logic.{_≢_}
+use mathlib.Core.Bool.{Bool, true, false, not, _&&_}
 use mathlib.Core.List.{List}
 use Prim.Native.Nat.{ℕ, suc, _+_, _≤_, _<_}
 use native.Mathlib.Nat.{le-refl}
@@ -17,7 +17,7 @@ use Rattle.masks.specs.Mask.{has}
 use Rattle.ranges.specs.Sum.{given, hit}
 use Rattle.ranges.proofs.SumLaws.{hit-other}
 use Rattle.ranges.proofs.EveryLaws.{never-both, and-holds, or-fails}
-use Rattle.numbers.specs.Numbers.{mostTicks, editionOne, editionTwo, timer}
+use Rattle.numbers.specs.Numbers.{mostTicks, editionOne, timer}
 use Rattle.table.specs.declared.Table.{Table}
 use Rattle.table.specs.Values.{kindOf}
 use Rattle.table.specs.Links.{linked}

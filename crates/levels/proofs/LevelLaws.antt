@@ -5,22 +5,21 @@
 --   level-window              where there is a window, a level has its own, which is not longer
 --   bound-first, bound-second, bound-either   the number in the row: the bound over all, or the smaller of two
 --   bound-under               it is never above the bound over all
-use mathlib.Core.Path.{_≡_, refl, sym, ap, ap₂, subst, _∙_, fun-ext}
+use mathlib.Core.Path.{_≡_, refl, ap, ap₂, _∙_, fun-ext}
 use mathlib.Core.Logic.{_⊎_, inl, inr, _≢_}
 use mathlib.Core.Bool.{Bool, true, false, not, _&&_, _||_, and-false}
-use Prim.Native.Nat.{ℕ, zero, suc, _+_, _-_, _≤_, _<_, min}
+use Prim.Native.Nat.{ℕ, suc, _+_, _-_, _≤_, _<_, min}
 use native.Mathlib.Nat.{le-refl}
 use native.Mathlib.Omega.{arith}
-use lib.Dec.{eqb, ltb}
+use lib.Dec.{eqb}
 use borrow.Author.Tests.{le-ltb}
-use Rattle.masks.specs.Mask.{has, gather}
+use Rattle.masks.specs.Mask.{has}
 use Rattle.masks.proofs.Slots.{has-zero}
 use Rattle.masks.proofs.Gather.{gather-in}
 use Rattle.ranges.specs.Sum.{sum, given}
 use Rattle.ranges.specs.Least.{largest}
 use Rattle.ranges.proofs.SumLaws.{le-or-lt, sum-le, sum-gap, given-le}
 use Rattle.ranges.proofs.LeastLaws.{largest-le, largest-hit}
-use Rattle.curves.specs.Demand.{demand}
 use Rattle.curves.proofs.ArrivalsLaws.{arrivals-first}
 use Rattle.curves.proofs.DemandLaws.{arrivals-upto, cost-upto}
 use Rattle.table.specs.declared.Callback.{Callback}
@@ -35,7 +34,7 @@ use Rattle.windows.specs.Bounds.{arrivalsOf, costOf, supplyOf, windowOf, boundO
 use Rattle.windows.specs.Parts.{workIn}
 use Rattle.windows.proofs.WindowLaws.{window-settles, window-by}
 use Rattle.windows.proofs.TableLaws.{spaced, sound-rising}
-use Rattle.windows.proofs.PartLaws.{skipped, below-none, member-all}
+use Rattle.windows.proofs.PartLaws.{skipped}
 use Rattle.levels.specs.Levels.{overtakes, lowerThan, blockingBy, levelOf, windowOfLevel, boundOfLevel, boundOf}
 
 -- ---- all callbacks

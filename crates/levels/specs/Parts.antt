@@ -1,9 +1,8 @@
--- What inner functions compute: E(1) of a record, who goes before whom by kind and slot, and whether a record is a timer of edition 1.
+-- What inner functions compute: E(1) of a record, and who goes before whom by kind and slot.
 use mathlib.Core.Bool.{Bool, _&&_, _||_}
 use Prim.Native.Nat.{ℕ}
 use lib.Dec.{eqb, ltb}
 use Rattle.curves.specs.Cost.{cost}
-use Rattle.numbers.specs.Numbers.{editionOne, timer}
 use Rattle.table.specs.declared.Callback.{Callback}
 use Rattle.table.specs.Values.{entriesOf}
 

@@ -5,7 +5,7 @@
 use table::Callback;
 use table::Table;
 ghost use mathlib.Core.Path.{_≡_};
-ghost use Prim.Native.Nat.{ℕ, _<_, _≤_, _*_, _-_, max};
+ghost use Prim.Native.Nat.{ℕ, _<_, _≤_, _-_, max};
 ghost use mathlib.Core.Bool.{false};
 ghost use Rattle.masks.specs.Mask.{has};
 ghost use Rattle.numbers.specs.Numbers.{longest};
