@@ -9,10 +9,10 @@ use mathlib.Core.Path.{_≡_, refl, ap}
 use mathlib.Core.Logic.{_⊎_, inl, inr, _≢_}
 use mathlib.Core.Bool.{Bool, true, false, not}
 use Prim.Native.Nat.{ℕ, zero, suc, _+_, _*_, _-_, _≤_, _<_}
-use native.Mathlib.Nat.{le-refl, add-zero, add-suc, zero-mul, one-mul}
+use native.Mathlib.Nat.{add-zero, add-suc, zero-mul, one-mul}
 use native.Mathlib.Omega.{arith}
 use Rattle.ranges.specs.Sum.{sum, given}
-use Rattle.ranges.proofs.SumLaws.{le-or-lt, all-or-one, sum-le, sum-add, sum-same, sum-none, sum-one}
+use Rattle.ranges.proofs.SumLaws.{le-or-lt, all-or-one, sum-le, sum-add, sum-same, sum-none, sum-one, given-up}
 use Rattle.curves.specs.Demand.{demand, limit}
 use Rattle.curves.specs.Parts.{Rising}
 use Rattle.busy_window.specs.Counts.{Counts, Quiet, Open, Busy}
@@ -26,10 +26,6 @@ use Rattle.busy_window.proofs.Chain.{fed-none}
 use Rattle.busy_window.proofs.Flow.{inflow, work-count}
 
 -- ---- what is given on both sides
-
-given-mono : (b : Bool) {x y : ℕ} → x ≤ y → given b x ≤ given b y
-given-mono true l = l
-given-mono false l = le-refl 0
 
 given-strict : (b : Bool) {x y u w : ℕ} → (x < y → u < w) → given b x < given b y → given b u < given b w
 given-strict true f l = f l
@@ -53,13 +49,13 @@ module _ (n : ℕ) (k : ℕ → Bool) (c : Counts) where
   pub set-run : (N b b′ : ℕ) → Run n N b c → Blocked N b′ → Run n N b′ (only n k c)
   unfolding only
   set-run N b b′ r blocked = record {
-    fresh = λ i l. given-mono (k i) (r .fresh i l);
-    activated-up = λ i t l h. given-mono (k i) (r .activated-up i t l h);
-    finished-up = λ i t l h. given-mono (k i) (r .finished-up i t l h);
-    begun = λ i t l h. given-mono (k i) (r .begun i t l h);
+    fresh = λ i l. given-up (k i) (r .fresh i l);
+    activated-up = λ i t l h. given-up (k i) (r .activated-up i t l h);
+    finished-up = λ i t l h. given-up (k i) (r .finished-up i t l h);
+    begun = λ i t l h. given-up (k i) (r .begun i t l h);
     one-open = λ i t l h. one (k i) (r .one-open i t l h);
-    done = λ i t l h. (let x = r .done i t l h in (x .0, x .1, ap (given (k i)) (x .2), given-mono (k i) (x .3)));
-    offered = λ i t l h. given-mono (k i) (r .offered i t l h);
+    done = λ i t l h. (let x = r .done i t l h in (x .0, x .1, ap (given (k i)) (x .2), given-up (k i) (x .3)));
+    offered = λ i t l h. given-up (k i) (r .offered i t l h);
     left = λ i t l h. given-strict (k i) (r .left i t l h);
     conserves = λ i t l h w. omega (
       arith,
@@ -96,7 +92,7 @@ module _ (n : ℕ) (k : ℕ → Bool) (c : Counts) where
         cost false f x y p q l = omega arith
 
   pub set-rising : (a e : ℕ → ℕ → ℕ) → Rising n a e → Rising n (arrivalsOnly k a) e
-  set-rising a e cv = record { a-up = λ i d l. given-mono (k i) (cv .a-up i d l); e-up = cv .e-up }
+  set-rising a e cv = record { a-up = λ i d l. given-up (k i) (cv .a-up i d l); e-up = cv .e-up }
 
   -- the bound of x, one of the set, over the demand of the set
   module _ (N : ℕ) (a e : ℕ → ℕ → ℕ) (s : ℕ → ℕ) (M : ℕ) (fits : M ≤ N) (b b′ : ℕ) (r : Run n M b c) (w : Within n N M c a e s) (cv : Rising n a e) (blocked : Blocked M b′)

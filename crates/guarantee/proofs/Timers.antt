@@ -16,7 +16,7 @@ use borrow.Author.Tests.{eqb-true, eq-eqb, ltb-false}
 use Rattle.masks.specs.Mask.{has}
 use Rattle.ranges.specs.Sum.{given, hit}
 use Rattle.ranges.proofs.SumLaws.{hit-other}
-use Rattle.ranges.proofs.EveryLaws.{never-both, and-holds, or-fails}
+use Rattle.ranges.proofs.EveryLaws.{never-both, flipped, and-holds, or-fails}
 use Rattle.numbers.specs.Numbers.{mostTicks, editionOne, timer}
 use Rattle.table.specs.declared.Table.{Table}
 use Rattle.table.specs.Values.{kindOf}
@@ -43,14 +43,6 @@ use Rattle.guarantee.proofs.Unrefused
 use Rattle.guarantee.proofs.Unrefused.{activatedTo, read}
 use Rattle.guarantee.proofs.Conclusions
 
-not-false : (b : Bool) → not b ≡ true → b ≡ false
-not-false true e = sym e
-not-false false e = refl
-
-not-true : (b : Bool) → not b ≡ false → b ≡ true
-not-true true e = refl
-not-true false e = sym e
-
 module _ (tb : Table) (analysed : Analysed tb) (h : List Tick) (short : length h ≤ mostTicks)
     (w : WithinCurves tb h (results (fresh tb) h)) (x : ℕ) (below : x < tb .count) (over : overtakes tb x ≡ true) where
   abbrev n : ℕ
@@ -67,10 +59,10 @@ module _ (tb : Table) (analysed : Analysed tb) (h : List Tick) (short : length h
       (eqb-true (tb .edition) editionOne (a .0), eqb-true (kindOf tb x) timer (a .1))
 
   inside : (i : ℕ) → i < n → k i ≡ true → precedes tb x i ≡ false
-  inside i l e = sym (below-is tb x i l) ∙ not-false _ e
+  inside i l e = sym (below-is tb x i l) ∙ flipped _ _ e
 
   outside : (i : ℕ) → i < n → k i ≡ false → precedes tb x i ≡ true
-  outside i l e = sym (below-is tb x i l) ∙ not-true _ e
+  outside i l e = sym (below-is tb x i l) ∙ flipped _ _ e
 
   -- the level is one of timers
   member-timer : (i : ℕ) → i < n → k i ≡ true → kindOf tb i ≡ timer
@@ -130,7 +122,7 @@ module _ (tb : Table) (analysed : Analysed tb) (h : List Tick) (short : length h
   unfolding read levelOf
   blocked = set-blocked n (length h) (linked tb) (events h free) (states (before effected (fresh tb) h)) (Ticks.local tb h orderly) k urgent (activatedTo tb h)
       (Unrefused.flows tb analysed h short w) (length h) (arrivalsOf tb) (costOf tb) (supplyOf tb) (Unrefused.within-all tb analysed h short w) (sound-rising tb (analysed .sound))
-      _ (λ j l e. blocked-by tb (lowerThan tb x) j l (not-true _ e))
+      _ (λ j l e. blocked-by tb (lowerThan tb x) j l (flipped _ _ e))
 
   -- the second bound keeps its promise
   pub kept-level : Conclusions.Kept tb analysed h short w x (boundOfLevel tb x)

@@ -1,9 +1,9 @@
 -- Laws of tests, and of tests over the numbers below n.
--- holds, T-holds: a test as a type and as an equation. never-both, and-holds, or-fails: of one test and of two.
+-- holds, T-holds: a test as a type and as an equation. never-both, flipped, and-holds, or-fails: of one test and of two.
 -- within-passed, within-holds: a number in a range. every: every-at, every-all, every-more, every-miss. some: some-hit, some-none, some-miss, some-fewer, some-more.
 use mathlib.Core.Path.{_≡_, refl, sym, ap, ap₂, _∙_, subst}
 use mathlib.Core.Logic.{_⊎_, inl, inr}
-use mathlib.Core.Bool.{Bool, true, false, _&&_, _||_, or-true, true≢false}
+use mathlib.Core.Bool.{Bool, true, false, not, _&&_, _||_, or-true, true≢false}
 use Prim.Native.Nat.{ℕ, zero, suc, _+_, _≤_, _<_}
 use native.Mathlib.Nat.{eq-or-lt-of-le, le-of-suc-le-suc}
 use native.Mathlib.Numerals.{add-one}
@@ -26,6 +26,11 @@ pub never-both : (b : Bool) → b ≡ true → b ≡ false → ⊥
 never-both b e f = true≢false (sym e ∙ f)
 
 -- both of two tests hold
+-- a test that is turned round
+pub flipped : (a b : Bool) → not a ≡ b → a ≡ not b
+flipped true b e = ap not e
+flipped false b e = ap not e
+
 pub and-holds : (a b : Bool) → (a && b) ≡ true → (a ≡ true) × (b ≡ true)
 and-holds true b e = (refl, e)
 and-holds false b e = absurd (never-both false e refl)

@@ -2,7 +2,7 @@
 -- le-or-lt, mono-upto, one-further: the order, functions that do not fall, what holds below n and at n. all-or-one: all stay within, or one does not.
 -- sum-le, sum-gap, sum-lt, sum-add, sum-same: two sums compared, added, equal. sum-none, sum-one, sum-part, sum-more: a sum of nothing, one
 -- of a single term, one of its terms, one term more.
--- given-le: what is given or not. hit-self, hit-other, hit-none, hit-le, sum-hit: an index that is that of a slot, and that summed over the slots.
+-- given-le, given-up: what is given or not. hit-self, hit-other, hit-none, hit-le, sum-hit: an index that is that of a slot, and that summed over the slots.
 use mathlib.Core.Path.{_≡_, refl, subst, sym, ap, _∙_}
 use mathlib.Core.Logic.{_⊎_, inl, inr, _≢_}
 use mathlib.Core.Bool.{Bool, true, false}
@@ -121,6 +121,10 @@ module _ (f : ℕ → ℕ) where
 pub given-le : (b : Bool) (x : ℕ) → given b x ≤ x
 given-le true x = le-refl x
 given-le false x = omega arith
+
+pub given-up : (b : Bool) {x y : ℕ} → x ≤ y → given b x ≤ given b y
+given-up true l = l
+given-up false l = le-refl 0
 
 pub hit-self : (i : ℕ) → hit (suc i) i ≡ 1
 unfolding hit

@@ -18,7 +18,7 @@ use borrow.Author.Tests.{ltb-true, lt-ltb, le-ltb, eq-eqb}
 use Rattle.masks.specs.Mask.{has, withBit, countOf}
 use Rattle.masks.proofs.Gather.{gather-in, gather-has, gather-took, gather-left}
 use Rattle.ranges.proofs.LeastLaws.{lowest-same}
-use Rattle.ranges.proofs.EveryLaws.{and-holds, never-both}
+use Rattle.ranges.proofs.EveryLaws.{flipped, and-holds, never-both}
 use Rattle.table.specs.declared.Table.{Table}
 use Rattle.priority.specs.declared.Kinds as masked
 use Rattle.numbers.specs.Numbers.{places, editionTwo, timer, client}
@@ -46,10 +46,6 @@ pub record Chosen (t : Table) (ws : List ℕ) (r : Choice) : Type 0 where
   -- where an unpolled callback waits, the chosen one is it or has the higher priority
   pub urgent : ((i : ℕ) → i < t .count → (timer ≤ kindOf t i) × (kindOf t i ≤ client))
       → (i j : ℕ) → i < t .count → 0 < getD ws i 0 → isPolled t i ≡ false → r .chosen ≡ suc j → i ≢ j → precedes t j i ≡ true
-
-not-true : (b : Bool) → not b ≡ true → b ≡ false
-not-true true e = sym e
-not-true false e = refl
 
 module _ (t : Table) (ws : List ℕ) where
   unpolled : ℕ → Bool
@@ -86,7 +82,7 @@ module _ (t : Table) (ws : List ℕ) where
         waiting = λ j q. (
             let a = foremost-hit t unpolled j (e ∙ q) in
             let b = and-holds (not (isPolled t j)) (waits ws j) (a .1) in
-            (a .0, ltb-true 0 (getD ws j 0) (b .1), λ p. absurd (never-both (isPolled t j) p (not-true (isPolled t j) (b .0))))
+            (a .0, ltb-true 0 (getD ws j 0) (b .1), λ p. absurd (never-both (isPolled t j) p (flipped (isPolled t j) true (b .0))))
             );
         some = λ k j l h. omega arith;
         urgent = λ k u j l h p q d. foremost-first t unpolled u l (passes u h p) j d (k u l .0) (k u l .1) (e ∙ q);
@@ -123,7 +119,7 @@ module _ (t : Table) (two : t .edition ≡ editionTwo) where
       go : (x : ℕ) → foremost t (unpolled t ws) ≡ x → (y : ℕ) → y ≢ 0 → chosenOf c x y (pollingPoint t (gatheredOf t ws)) ≡ choice y c false 0
       go (suc i) e y n =
           let a = and-holds (not (isPolled t i)) (waits ws i) (foremost-hit t (unpolled t ws) i e .1) in
-          absurd (never-both (isPolled t i) (all-polled i) (not-true (isPolled t i) (a .0)))
+          absurd (never-both (isPolled t i) (all-polled i) (flipped (isPolled t i) true (a .0)))
       go zero e (suc i) n = refl
       go zero e zero n = absurd (n refl)
 

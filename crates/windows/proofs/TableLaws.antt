@@ -13,9 +13,9 @@ use lib.ListN.{length, getD, set}
 use lib.Seq.{getD-set-same, getD-set-other}
 use borrow.Author.Tests.{eq-eqb, ne-eqb}
 use Rattle.masks.specs.Mask.{has}
-use Rattle.ranges.specs.Sum.{given}
 use Rattle.curves.specs.Parts.{Rising, Inverse}
 use Rattle.ranges.proofs.EveryLaws.{never-both}
+use Rattle.ranges.proofs.SumLaws.{given-up}
 use Rattle.curves.proofs.ArrivalsLaws.{arrivals-mono}
 use Rattle.curves.proofs.CostLaws.{cost-up}
 use Rattle.curves.proofs.SupplyLaws.{supply-inverse}
@@ -65,11 +65,7 @@ module _ (t : Table) (so : Sound t) where
   -- so it is in a level
   pub level-rising : (v : Level) → Rising (t .count) (arrivalsIn t v) (costOf t)
   unfolding arrivalsIn
-  level-rising v = record { a-up = λ i d l. rises (not (has (v .below) i)) (sound-rising .a-up i d l); e-up = sound-rising .e-up }
-    where
-      rises : (b : Bool) {x y : ℕ} → x ≤ y → given b x ≤ given b y
-      rises true l = l
-      rises false l = le-refl 0
+  level-rising v = record { a-up = λ i d l. given-up (not (has (v .below) i)) (sound-rising .a-up i d l); e-up = sound-rising .e-up }
 
   -- its supply has an inverse
   pub sound-inverse : (most : ℕ) → Inverse most (supplyOf t) (reachOf t most)

@@ -1,12 +1,12 @@
 -- `demand` meets its contract. The loop: the sum so far is that of the slots passed, those below the level adding nothing.
 use mathlib.Core.Path.{_≡_, sym, ap, _∙_}
 use mathlib.Core.Logic.{⊎-elim}
-use mathlib.Core.Bool.{Bool, true, false, not}
 use Prim.Native.Nat.{ℕ, _+_, _*_, _-_, _≤_, _<_}
 use lib.ListN.{getD}
 use Rattle.ranges.specs.Sum.{sum as total}
 use Rattle.numbers.specs.Numbers.{places}
 use borrow.Author.Needs.{needs}
+use Rattle.ranges.proofs.EveryLaws.{flipped}
 use native.Mathlib.Omega.{arith}
 use Rattle.windows.proofs.TableLaws.{costed}
 use Rattle.windows.proofs.PartLaws.{head-within, head-spaced, work-of, in-skip, in-add}
@@ -31,10 +31,6 @@ begun c = c .before .before .before
 
 abbrev slot : AtSlot → ℕ
 slot c = c .before .loop .i
-
-flips : (a b : Bool) → not a ≡ b → a ≡ not b
-flips true b e = ap not e
-flips false b e = ap not e
 
 -- the head at hand lies in the table
 led : (c : AtSlot) → getD (begun c .args .t2) (slot c) 0 < places
@@ -74,10 +70,10 @@ added c =
     ⊎-elim
     (λ w.
     let e = w .3 .ensures .0 ∙ work-of (start .args .t1) i _ (start .args .length) (start .pre .0 .headed i (at .loop-test .taken)) in
-    let out = sym (c .before .test-slot .ensures) ∙ flips _ _ (w .0 .taken) in
+    let out = sym (c .before .test-slot .ensures) ∙ flipped _ _ (w .0 .taken) in
     (w .4 ∙ in-add (start .args .t1) (start .args .level) so (start .args .length) i _ _ out (inv .1) e, omega (arith, w .4, w .3 .ensures .1, inv .2)))
     (λ w.
-    let out = sym (c .before .test-slot .ensures) ∙ flips _ _ (w .0 .left) in
+    let out = sym (c .before .test-slot .ensures) ∙ flipped _ _ (w .0 .left) in
     (w .1 ∙ in-skip (start .args .t1) (start .args .level) so (start .args .length) i _ (at .loop-test .taken) out (inv .1), omega (arith, w .1, inv .2)))
     (c .if1 .came)
 
