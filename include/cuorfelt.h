@@ -25,7 +25,7 @@ extern "C" {
 /* The version of this header and of its library. A host is compiled anew where the first number differs; the second rises where
  * something is added, the third where neither is so. */
 #define CUORFELT_VERSION_MAJOR 1
-#define CUORFELT_VERSION_MINOR 3
+#define CUORFELT_VERSION_MINOR 4
 #define CUORFELT_VERSION_PATCH 0
 
 /* Sizes. */

@@ -101,28 +101,28 @@ pub fn goes_before(table: &Table, one: usize, other: usize) -> bool {
     (table.callback(one).kind, one) < (table.callback(other).kind, other)
 }
 
-/// U5, "for timer i of edition 1": whether the callback has a second bound.
+/// U5: whether the callback has a second bound, as timers have in a table of edition 1.
 pub fn has_second_bound(table: &Table, index: usize) -> bool {
     table.edition == 1 && table.callback(index).kind == Kind::Timer
 }
 
-/// U5, "let B be the largest E(1) among callbacks of lower priority, less 1, or 0 if there are
-/// none": what may be left of a lower instance that started in the tick before.
+/// U5, B: one less than the largest E(1) of those that go behind the callback, 0 where nobody does.
+/// It is what may be left of a lower instance that started in the tick before.
 pub fn blocking_literal(table: &Table, index: usize) -> u64 {
     let lower = (1..=table.count()).filter(|&i| goes_before(table, index, i));
     let costliest = lower.map(|i| cost(&table.callback(i).entries, 1)).max();
     costliest.map_or(0, |most| most - 1)
 }
 
-/// U5, "the demand E(a(D)) of the timers above": those of higher priority, added up.
+/// U5, what the timers of higher priority may need in a length: their E(a(D)), added up.
 fn cost_of_timers_above(table: &Table, index: usize, length: u64) -> u64 {
     let timers = (1..=table.count()).filter(|&i| table.callback(i).kind == Kind::Timer);
     let above = timers.filter(|&i| goes_before(table, i, index));
     above.map(|i| cost_in(table, i, length)).sum()
 }
 
-/// U5, "its own window is the least positive length whose supply covers B plus the demand of i and
-/// the timers above it". Lengths end at `most`; for that W does, which no own window exceeds.
+/// U5, the own window: the first length from 1 on whose supply covers B, the callback's E(a(D)) and
+/// those of the timers above. Lengths end at `most`; for that W does, which no own window exceeds.
 pub fn own_window_literal(table: &Table, index: usize, most: u64) -> Option<u64> {
     let blocking = blocking_literal(table, index);
     (1..=most).find(|&length| {
@@ -132,9 +132,9 @@ pub fn own_window_literal(table: &Table, index: usize, most: u64) -> Option<u64>
     })
 }
 
-/// U5, "for each offset A from 0 to that length less 1, take the least positive D with supply at
-/// least B + E of i at a(A + 1) + the demand E(a(D)) of the timers above. The second bound is the
-/// largest D - A". No such D is above the own window: that covers a(A + 1) too. None where the
+/// U5, the second bound: the largest D - A over the offsets A below the own window, D being the
+/// first length from 1 on whose supply covers B, the callback's own E(a(A + 1)) and the E(a(D)) of
+/// the timers above. No such D is above the own window: that covers a(A + 1) too. None where the
 /// callback has no second bound, or no own window up to `most`.
 pub fn second_bound_literal(table: &Table, index: usize, most: u64) -> Option<u64> {
     if !has_second_bound(table, index) {
@@ -156,8 +156,8 @@ pub fn second_bound_literal(table: &Table, index: usize, most: u64) -> Option<u6
     Some(bound)
 }
 
-/// U5, "the row gets the smaller of the two": of first and second bound for a timer of edition 1.
-/// "Tables of edition 2 keep the present bound", and so do all other callbacks.
+/// U5, the number in the row: the smaller of first and second bound for a timer of edition 1, the
+/// first for callbacks of edition 2 and for all that are no timers.
 pub fn bound_literal(table: &Table, index: usize, window: u64) -> u64 {
     let first = first_bound_literal(table, index, window);
     match second_bound_literal(table, index, window) {
