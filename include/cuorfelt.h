@@ -161,6 +161,7 @@ cuorfelt_written cuorfelt_write(uint16_t edition, uint16_t count, uint16_t budge
                                 const uint16_t *records, size_t numbers, uint8_t *buffer, size_t length);
 
 /* Analyses a table of n callbacks: returns the window and writes the bounds of callbacks 1 to n to row[0] to row[n - 1].
+ * The bound of a timer of edition 1 is the smaller of two (since 1.4; docs/GUIDE.md, 'The sheet').
  * Places of the row from n on are not touched. A refusal, 17 (fewer than 16 places), any that cuorfelt_read gives, 15 or 16, touches no
  * place of the row and returns window 0. */
 cuorfelt_sheet cuorfelt_analyse(const uint8_t *table, size_t length, uint16_t *row, size_t places);
