@@ -3,6 +3,7 @@
 use crate::plain::every_length::EveryLength;
 use crate::plain::jumps::Jumps;
 use crate::plain::sheet::lengths;
+use sim::generate::blocking::timers;
 use sim::generate::tables::{any_shape, table};
 use sim::random::Random;
 use sim::sheet::{analyse, arrivals};
@@ -14,6 +15,8 @@ const DRAWS: usize = 60_000;
 struct Taken {
     window: u64,
     callbacks: u64,
+    /// Timers of edition 1.
+    timers: u64,
     /// Activations of all callbacks that a window may hold.
     activations: u64,
     jumps: u64,
@@ -27,6 +30,7 @@ fn taken(table: &Table) -> Option<Taken> {
     Some(Taken {
         window,
         callbacks: table.count() as u64,
+        timers: timers(table).len() as u64,
         activations: (1..=table.count()).map(activations).sum(),
         jumps: lengths::<Jumps>(&bytes),
         every: lengths::<EveryLength>(&bytes),
@@ -83,6 +87,9 @@ pub fn grown() {
 
 /// No sheet takes more: each length but the first of a search lies behind an
 /// activation that the one before it did not hold, or ends the search of one.
+/// The level of a timer has its own window, and one bound.
 fn most(taken: &Taken) -> u64 {
-    (taken.callbacks + 2) * taken.activations + 1
+    let all = (taken.callbacks + 2) * taken.activations + 1;
+    let levels = taken.timers * (2 * taken.activations + 1) + taken.activations;
+    all + if taken.timers == 0 { 0 } else { levels }
 }

@@ -163,8 +163,9 @@ fn analyses(random: &mut Random) -> Vec<Work> {
             drawn(random, 4, Shape::Small, unsettled),
         ),
         Work::sheets("16 callbacks, window 59,984", vec![encode(&longest())]),
-        searched(&in_turn()),
-        searched(&one_ahead()),
+        searched("callbacks", &in_turn()),
+        searched("timers", &timers_in_turn()),
+        searched("callbacks", &one_ahead()),
     ]
 }
 
@@ -230,11 +231,11 @@ fn longest() -> Table {
 }
 
 /// A table named by the lengths that its sheet takes.
-fn searched(table: &Table) -> Work {
+fn searched(what: &str, table: &Table) -> Work {
     let bytes = encode(table);
     let lengths = lengths::<Jumps>(&bytes);
     let (thousands, rest) = (lengths / 1_000, lengths % 1_000);
-    let name = format!("{} callbacks, {thousands},{rest:03} lengths", table.count());
+    let name = format!("{} {what}, {thousands},{rest:03} lengths", table.count());
     Work::sheets(&name, vec![bytes])
 }
 
@@ -255,6 +256,15 @@ fn in_turn() -> Table {
         callbacks: (0..16).map(callback).collect(),
         ..longest()
     }
+}
+
+/// The same, all of them timers: sixteen levels beside the search of all.
+fn timers_in_turn() -> Table {
+    let mut table = in_turn();
+    for callback in &mut table.callbacks {
+        callback.kind = Kind::Timer;
+    }
+    table
 }
 
 /// In each length the demand is one tick more than the supply, so that no jump
