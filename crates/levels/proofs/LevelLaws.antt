@@ -92,35 +92,33 @@ module _ (t : Table) (so : Sound t) (v : Level) where
   unfolding workIn arrivalsIn
   fewer i W l = cost-upto (t .count) (arrivalsOf t) (costOf t) (sound-rising t so) i _ _ l (given-le (not (has (v .below) i)) (arrivalsOf t i W))
 
+  abbrev all : ℕ → ℕ → ℕ
+  all W i = costOf t i (arrivalsOf t i W)
+
   -- B and its demand are within the demand of all: whoever B comes from is not charged in the level
-  within-all : v .blocking ≡ blockingBy t (v .below) → (W : ℕ) → 0 < W
-      → v .blocking + sum (t .count) (workIn t v W) ≤ sum (t .count) (λ i. costOf t i (arrivalsOf t i W))
+  abbrev Fits : ℕ → Type 0
+  Fits W = v .blocking + sum (t .count) (workIn t v W) ≤ sum (t .count) (all W)
+
+  within-all : v .blocking ≡ blockingBy t (v .below) → (W : ℕ) → 0 < W → Fits W
   unfolding blockingBy
   within-all e W p = go (le-or-lt (largest (t .count) f) 0)
     where
       f : ℕ → ℕ
       f = λ j. given (has (v .below) j) (costOf t j 1)
 
-      go : (largest (t .count) f ≤ 0) ⊎ (0 < largest (t .count) f) → v .blocking + sum (t .count) (workIn t v W) ≤ sum (t .count) (λ i. costOf t i (arrivalsOf t i W))
-      go (inl z) = omega (arith, sum-le (workIn t v W) (λ i. costOf t i (arrivalsOf t i W)) (t .count) (λ i l. fewer i W l))
-      go (inr m) = pick (largest-hit f (t .count) m)
-        where
-          pick : (i : ℕ) × (i < t .count) × (f i ≡ largest (t .count) f) → v .blocking + sum (t .count) (workIn t v W) ≤ sum (t .count) (λ i. costOf t i (arrivalsOf t i W))
-          pick h = by (has (v .below) (h .0)) refl
-            where
-              i : ℕ
-              i = h .0
+      from : (i : ℕ) → i < t .count → f i ≡ largest (t .count) f → 0 < largest (t .count) f → (b : Bool) → has (v .below) i ≡ b → Fits W
+      from i l h m true q = omega (
+        arith,
+        sum-gap (workIn t v W) (all W) (costOf t i 1) (t .count) i l
+            (omega (arith, skipped t v so W i l q, cost-upto (t .count) (arrivalsOf t) (costOf t) (sound-rising t so) i 1 _ l (arrives i W l p)))
+            (λ j k. fewer j W k),
+        ap (λ (b : Bool). given b (costOf t i 1)) q,
+      )
+      from i l h m false q = absurd (omega (arith, ap (λ (b : Bool). given b (costOf t i 1)) q))
 
-              by : (b : Bool) → has (v .below) i ≡ b → v .blocking + sum (t .count) (workIn t v W) ≤ sum (t .count) (λ j. costOf t j (arrivalsOf t j W))
-              by true q = omega (
-                arith,
-                sum-gap (workIn t v W) (λ j. costOf t j (arrivalsOf t j W)) (costOf t i 1) (t .count) i (h .1)
-                    (omega (arith, skipped t v so W i (h .1) q, cost-upto (t .count) (arrivalsOf t) (costOf t) (sound-rising t so) i 1 _ (h .1) (arrives i W (h .1) p)))
-                    (λ j l. fewer j W l),
-                h .2,
-                ap (λ (b : Bool). given b (costOf t i 1)) q,
-              )
-              by false q = absurd (omega (arith, h .2, ap (λ (b : Bool). given b (costOf t i 1)) q))
+      go : (largest (t .count) f ≤ 0) ⊎ (0 < largest (t .count) f) → Fits W
+      go (inl z) = omega (arith, sum-le (workIn t v W) (all W) (t .count) (λ i l. fewer i W l))
+      go (inr m) = (let h = largest-hit f (t .count) m in from (h .0) (h .1) (h .2) m (has (v .below) (h .0)) refl)
 
 -- the own window of a slot is there wherever W is, and not longer: so it is the least positive length of all
 pub level-window : (t : Table) → Sound t → (x : ℕ) → windowOf t ≢ 0 → (0 < windowOfLevel t x) × (windowOfLevel t x ≤ windowOf t)

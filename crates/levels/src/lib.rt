@@ -10,15 +10,15 @@ ghost use mathlib.Core.Path.{_≡_};
 ghost use Prim.Native.Nat.{ℕ, _<_, _≤_, max, min};
 ghost use Rattle.numbers.specs.Numbers.{longest};
 ghost use Rattle.rules.specs.Parts.{Sound};
-ghost use Rattle.windows.specs.Bounds.{windowOf, boundOfAll, everyone as every-callback};
+ghost use Rattle.windows.specs.Bounds.{windowOf, boundOfAll, everyone as everyoneOf};
 ghost use Rattle.windows.specs.Parts.{Costed, Headed};
-ghost use Rattle.levels.specs.Levels.{overtakes as overtakes-all, lowerThan, blockingBy, boundOfLevel, boundOf};
+ghost use Rattle.levels.specs.Levels.{overtakes as overtakesOf, lowerThan, blockingBy, boundOfLevel, boundOf};
 ghost use Rattle.levels.specs.Parts.{singleOf, goesBefore};
 
 // All callbacks.
 fn everyone(t: Table) -> Level
     requires { ⌜ Sound t ⌝ }
-    ensures { λ r. ⌜ r ≡ every-callback t ⌝ }
+    ensures { λ r. ⌜ r ≡ everyoneOf t ⌝ }
 {
     Level {
         below: 0,
@@ -142,7 +142,7 @@ fn bound_of_level(t: Table, heads: [u8; 16], x: usize, window: u32) -> u32
 // Whether slot x is a timer of edition 1, which goes before all that is polled.
 fn overtakes(t: Table, x: usize) -> bool
     requires { ⌜ Sound t × (x < t .count) ⌝ }
-    ensures { λ r. ⌜ r ≡ overtakes-all t x ⌝ }
+    ensures { λ r. ⌜ r ≡ overtakesOf t x ⌝ }
 {
     if t.edition != EDITION_ONE {
         return false;
