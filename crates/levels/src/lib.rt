@@ -8,12 +8,13 @@ use table::Table;
 use windows::Level;
 ghost use mathlib.Core.Path.{_≡_};
 ghost use Prim.Native.Nat.{ℕ, _<_, _≤_, max, min};
-ghost use Rattle.numbers.specs.Numbers.{longest};
+ghost use Rattle.numbers.specs.Numbers.{places, longest};
+ghost use Rattle.priority.specs.Priority.{precedes};
 ghost use Rattle.rules.specs.Parts.{Sound};
 ghost use Rattle.windows.specs.Bounds.{windowOf, boundOfAll, everyone as everyoneOf};
 ghost use Rattle.windows.specs.Parts.{Costed, Headed};
 ghost use Rattle.levels.specs.Levels.{overtakes as overtakesOf, lowerThan, blockingBy, boundOfLevel, boundOf};
-ghost use Rattle.levels.specs.Parts.{singleOf, goesBefore};
+ghost use Rattle.levels.specs.Parts.{singleOf};
 
 // All callbacks.
 fn everyone(t: Table) -> Level
@@ -45,12 +46,15 @@ fn bound_of_all(t: Table, heads: [u8; 16], x: usize, window: u32) -> u32
     windows::bound(t, heads, level, x, window)
 }
 
-// Whether a callback in one slot goes before one in another, by their kinds.
-fn goes_before(kind: u8, slot: usize, other: u8, place: usize) -> bool
-    ensures { λ r. ⌜ r ≡ goesBefore kind slot other place ⌝ }
+// Whether slot x has a higher priority than slot i.
+fn goes_before(t: Table, x: usize, i: usize) -> bool
+    requires { ⌜ (x < places) × (i < places) ⌝ }
+    ensures { λ r. ⌜ r ≡ precedes t x i ⌝ }
 {
+    let kind = t.callbacks[x].kind;
+    let other = t.callbacks[i].kind;
     if kind == other {
-        return slot < place;
+        return x < i;
     }
     kind < other
 }
@@ -61,12 +65,10 @@ fn lower(t: Table, x: usize) -> u16
     ensures { λ r. ⌜ r ≡ lowerThan t x ⌝ }
 {
     let n = t.count as usize;
-    let kind = t.callbacks[x].kind;
     let mut below: u16 = 0;
     let mut i: usize = 0;
     while i < n {
-        let other = t.callbacks[i].kind;
-        if goes_before(kind, x, other, i) {
+        if goes_before(t, x, i) {
             below = masks::set_slot(below, i as u16);
         }
         i += 1;
