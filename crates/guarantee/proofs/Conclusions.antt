@@ -15,11 +15,10 @@ use native.Mathlib.Omega.{arith}
 use lib.Dec.{T, eqb}
 use borrow.Author.Tests.{eqb-true}
 use lib.ListN.{length}
-use Rattle.masks.specs.Mask.{has}
 use Rattle.ranges.specs.Sum.{sum, given, hit}
 use Rattle.curves.specs.Demand.{limit}
 use Rattle.ranges.proofs.SumLaws.{hit-none, sum-same, sum-none, le-or-lt}
-use Rattle.ranges.proofs.EveryLaws.{holds, never-both, and-holds}
+use Rattle.ranges.proofs.EveryLaws.{holds, T-holds, and-holds}
 use Rattle.table.specs.declared.Table.{Table}
 use Rattle.table.specs.Links.{linked, isHead, nextAfter}
 use Rattle.busy_window.specs.Bound.{Covers}
@@ -33,14 +32,14 @@ use Rattle.numbers.specs.Numbers.{mostTicks}
 use Rattle.answers.specs.Outcome.{callbackOf, instanceOf, finishedOf}
 use Rattle.executor.specs.State.{fresh, waitingOf, finishedAt}
 use Rattle.windows.proofs.TableLaws.{sound-rising}
-use Rattle.guarantee.specs.History.{Tick, Result, resultOf, results, tickAt, resultAt, completesAt, releasesAt, releasedBy, activatedAt, activations, activation, startsAt, instanceStarts, completions, completion}
+use Rattle.guarantee.specs.History.{Tick, Result, resultOf, results, tickAt, resultAt, completesAt, releasesAt, releasedBy, activates, activatedAt, activations, activation, startsAt, instanceStarts, completions, completion}
 use Rattle.guarantee.specs.Within.{WithinCurves}
 use Rattle.guarantee.proofs.Fed.{fed-next}
 use Rattle.guarantee.proofs.Ticks
 use Rattle.guarantee.proofs.Ticks.{before, at, effected, events, states, Orderly}
 use Rattle.guarantee.proofs.Analysed.{Analysed, leads}
 use Rattle.guarantee.proofs.Unrefused
-use Rattle.guarantee.proofs.Unrefused.{activatedTo, read, head-activated}
+use Rattle.guarantee.proofs.Unrefused.{in-mask, activatedTo, read, head-activated}
 use Rattle.chains.specs.Chains.{headOf}
 use Rattle.link_rules.proofs.Names.{head-unfed}
 use Rattle.windows.specs.Bounds.{arrivalsOf, costOf, supplyOf, windowOf}
@@ -109,6 +108,10 @@ module _ (tb : Table) (analysed : Analysed tb) (h : List Tick) (short : length h
   abbrev done : ℕ → ℕ → ℕ
   done p t = sum t (λ u. hit (finishedOf ((free u) .outcome)) p)
 
+  -- whether tick t activates i, of the same run
+  abbrev brings : ℕ → ℕ → ℕ
+  brings i t = given (activates (tickAt h t) (free t) i) 1
+
   -- the completions that release i
   releases-in : (i t : ℕ) → t ≤ length h → sum t (λ u. given (releasesAt tb r i u) 1) ≡ fed (linked tb) n (λ p. done p t) i
   unfolding releasesAt
@@ -127,22 +130,24 @@ module _ (tb : Table) (analysed : Analysed tb) (h : List Tick) (short : length h
   released-in i t l = first-sum (λ u. given (releasedBy tb r i u) 1) t ∙ zero-add _ ∙ releases-in i t l
 
   activations-in : (i t : ℕ) → t < length h
-      → activations tb h r i (suc t) ≡ sum (suc t) (λ u. given (has ((tickAt h u) .mask) i) 1) + fed (linked tb) n (λ p. done p t) i
+      → activations tb h r i (suc t) ≡ sum (suc t) (brings i) + fed (linked tb) n (λ p. done p t) i
   unfolding activations activatedAt
   activations-in i t l = go (isHead tb i) refl
     where
       go : (b : Bool) → isHead tb i ≡ b
-          → sum (suc t) (λ u. given (cond (isHead tb i) (has ((tickAt h u) .mask) i) (releasedBy tb r i u)) 1)
-          ≡ sum (suc t) (λ u. given (has ((tickAt h u) .mask) i) 1) + fed (linked tb) n (λ p. done p t) i
-      go true e = rw (e, fed-none (linked tb) i (λ p. done p t) n (head-unfed tb i e), add-zero)
-      go false e = rw (e, sum-none (λ u. given (has ((tickAt h u) .mask) i) 1) (suc t) absent, zero-add) (released-in i t (omega arith))
+          → sum (suc t) (λ u. given (cond (isHead tb i) (activates (tickAt h u) (resultAt r u) i) (releasedBy tb r i u)) 1)
+          ≡ sum (suc t) (brings i) + fed (linked tb) n (λ p. done p t) i
+      go true e =
+          rw (e, fed-none (linked tb) i (λ p. done p t) n (head-unfed tb i e), add-zero)
+          (sum-same _ _ (suc t) (λ u k. ap (λ (y : Result). given (activates (tickAt h u) y i) 1) (same (suc t) u l k)))
+      go false e = rw (e, sum-none (brings i) (suc t) absent, zero-add) (released-in i t (omega arith))
         where
-          absent : (u : ℕ) → u < suc t → given (has ((tickAt h u) .mask) i) 1 ≡ 0
-          absent u k = given-no (has ((tickAt h u) .mask) i) 1 (λ x. subst T e (w .heads i u (omega arith) x .1))
+          absent : (u : ℕ) → u < suc t → brings i u ≡ 0
+          absent u k = given-no (activates (tickAt h u) (free u) i) 1 (λ x. subst T e (w .heads i u (omega arith) (in-mask (tickAt h u) (free u) i x) .1))
 
   -- what came in by the end of tick t's arrivals waits or has finished
-  flow-in : (i t : ℕ) → i < n → t ≤ length h → waitingOf (before effected (fresh tb) h t) i + done i t + given (has ((tickAt h t) .mask) i) 1
-      ≡ sum (suc t) (λ u. given (has ((tickAt h u) .mask) i) 1) + fed (linked tb) n (λ p. done p t) i
+  flow-in : (i t : ℕ) → i < n → t ≤ length h → waitingOf (before effected (fresh tb) h t) i + done i t + brings i t
+      ≡ sum (suc t) (brings i) + fed (linked tb) n (λ p. done p t) i
   unfolding sum events states
   flow-in i t l k = omega (arith, inflow n (length h) (linked tb) (events h free) (states (before effected (fresh tb) h)) (Ticks.local tb h orderly) i t l k)
 
@@ -162,28 +167,29 @@ module _ (tb : Table) (analysed : Analysed tb) (h : List Tick) (short : length h
       now : resultAt r t ≡ free t
       now = same (suc t) t b (le-refl _)
 
-      named-in : (i < n) × (0 < waitingOf (before effected (fresh tb) h t) i + given (has ((tickAt h t) .mask) i) 1)
+      named-in : (i < n) × (0 < waitingOf (before effected (fresh tb) h t) i + brings i t)
           × (instanceOf ((free t) .outcome) ≡ suc (finishedAt (before effected (fresh tb) h t) i))
       named-in = Ticks.did tb h orderly t b .names i
           (sym (ap (λ (y : Result). callbackOf (y .outcome)) now)
           ∙ eqb-true (callbackOf ((resultAt r t) .outcome)) (suc i) (and-holds ((resultAt r t) .started) (eqb (callbackOf ((resultAt r t) .outcome)) (suc i)) (holds _ (x .0)) .1))
 
-      arrived-or-waiting : waitingOf (before effected (fresh tb) h t) i + done i t + given (has ((tickAt h t) .mask) i) 1
-          ≡ sum (suc t) (λ u. given (has ((tickAt h u) .mask) i) 1) + fed (linked tb) n (λ p. done p t) i
+      arrived-or-waiting : waitingOf (before effected (fresh tb) h t) i + done i t + brings i t ≡ sum (suc t) (brings i) + fed (linked tb) n (λ p. done p t) i
       arrived-or-waiting = flow-in i t l (omega arith)
 
   -- ---- every completion in time
 
   -- the k-th activation of the head of i's chain, as counts
-  activated-is : (i t : ℕ) → i < n → activations tb h r (headOf tb i) t ≡ activatedTo tb h i t
+  activated-is : (i t : ℕ) → i < n → t ≤ length h → activations tb h r (headOf tb i) t ≡ activatedTo tb h free i t
   unfolding activations
-  activated-is i t l = sum-same _ _ t (λ u _. ap (λ (b : Bool). given b 1) (head-activated tb h r (headOf tb i) u (leads tb (analysed .sound) i l)))
+  activated-is i t l b =
+      sum-same _ _ t
+      (λ u k. ap (λ (x : Bool). given x 1) (head-activated tb h r (headOf tb i) u (leads tb (analysed .sound) i l) ∙ ap (λ (y : Result). activates (tickAt h u) y (headOf tb i)) (same t u b k)))
 
   completions-same : (i t : ℕ) → t ≤ length h → completions r i t ≡ done i t
   unfolding completions completesAt hit
   completions-same i t l = sum-same _ _ t (λ u k. ap (λ (x : Result). given (eqb (finishedOf (x .outcome)) (suc i)) 1) (same t u l k))
 
-  one-more : (i v : ℕ) → has ((tickAt h v) .mask) (headOf tb i) ≡ true → suc (activatedTo tb h i v) ≡ activatedTo tb h i (suc v)
+  one-more : (i v : ℕ) → activates (tickAt h v) (free v) (headOf tb i) ≡ true → suc (activatedTo tb h free i v) ≡ activatedTo tb h free i (suc v)
   unfolding sum
   one-more i v e = omega (arith, ap (λ (b : Bool). given b 1) e)
 
@@ -193,7 +199,7 @@ module _ (tb : Table) (analysed : Analysed tb) (h : List Tick) (short : length h
 
   -- what a number R promises of callback i, as counts
   abbrev pub Kept : ℕ → ℕ → Type 0
-  Kept i R = (v k : ℕ) → v < length h → activatedTo tb h i v < k → k ≤ activatedTo tb h i (suc v) → v + R ≤ length h → k ≤ done i (v + R)
+  Kept i R = (v k : ℕ) → v < length h → activatedTo tb h free i v < k → k ≤ activatedTo tb h free i (suc v) → v + R ≤ length h → k ≤ done i (v + R)
 
   -- a bound over all callbacks keeps its promise
   pub kept-all : (i R : ℕ) → i < n → Covers n (costOf tb) (supplyOf tb) 0 (limit (arrivalsOf tb) i) (windowOf tb) R → Kept i R
@@ -208,21 +214,21 @@ module _ (tb : Table) (analysed : Analysed tb) (h : List Tick) (short : length h
   unfolding activation completions
   in-time i k v R l kept x end = found (reached (completesAt r i) (v + R) k (omega (arith, before-k)) enough)
     where
-      bit : has ((tickAt h v) .mask) (headOf tb i) ≡ true
-      bit = sym (head-activated tb h r (headOf tb i) v (leads tb (analysed .sound) i l)) ∙ holds _ (x .0)
+      at-v : activates (tickAt h v) (resultAt r v) (headOf tb i) ≡ true
+      at-v = sym (head-activated tb h r (headOf tb i) v (leads tb (analysed .sound) i l)) ∙ holds _ (x .0)
 
       in-list : v < length h
       in-list = go (le-or-lt (length h) v)
         where
           go : (length h ≤ v) ⊎ (v < length h) → v < length h
-          go (inl m) = absurd (never-both _ bit (Unrefused.none-past tb analysed h short w (headOf tb i) v m))
+          go (inl m) = absurd (Unrefused.none-past tb analysed h short w (headOf tb i) v m (resultAt r v) (T-holds _ at-v))
           go (inr m) = m
 
-      is-k : activatedTo tb h i (suc v) ≡ k
-      is-k = sym (activated-is i (suc v) l) ∙ x .1
+      is-k : activatedTo tb h free i (suc v) ≡ k
+      is-k = sym (activated-is i (suc v) l in-list) ∙ x .1
 
-      before-k : suc (activatedTo tb h i v) ≡ k
-      before-k = one-more i v bit ∙ is-k
+      before-k : suc (activatedTo tb h free i v) ≡ k
+      before-k = one-more i v (ap (λ (y : Result). activates (tickAt h v) y (headOf tb i)) (sym (same (suc v) v in-list (le-refl _))) ∙ at-v) ∙ is-k
 
       enough : k ≤ sum (v + R) (λ u. given (completesAt r i u) 1)
       enough = rw (completions-same i (v + R) end) (kept v k in-list (omega (arith, before-k)) (omega (arith, is-k)) end)

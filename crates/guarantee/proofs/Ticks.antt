@@ -14,7 +14,6 @@ use native.Mathlib.Decide.{ℕ-discrete}
 use native.Mathlib.Omega.{arith}
 use lib.Dec.{eqb}
 use lib.ListN.{length, getD-replicate}
-use Rattle.masks.specs.Mask.{has}
 use Rattle.ranges.specs.Sum.{sum, given, hit}
 use Rattle.ranges.proofs.SumLaws.{hit-self, hit-other, hit-none, hit-le}
 use Rattle.table.specs.declared.Table.{Table}
@@ -31,7 +30,7 @@ use Rattle.executor.specs.Effect.{effect}
 use Rattle.executor.specs.Parts.{Valid}
 use Rattle.executor.proofs.ValidLaws.{table-sound, fresh-table, fresh-valid}
 use Rattle.executor.proofs.Steps.{Stepped, steps-over}
-use Rattle.guarantee.specs.History.{Tick, Result, resultOf, ticked, results, tickAt, resultAt}
+use Rattle.guarantee.specs.History.{Tick, Result, resultOf, ticked, results, tickAt, resultAt, activates}
 use Rattle.guarantee.proofs.Fed.{fed-next}
 
 -- ---- any way to tick
@@ -62,7 +61,7 @@ results-at m (x ∷ h) (suc t) l = results-at _ h t (omega arith)
 -- what the ticks of h bring, and what they say, of each callback
 unfoldable pub events : List Tick → (ℕ → Result) → Events
 events h s = record {
-  arrives = λ i t. given (has ((tickAt h t) .mask) i) 1;
+  arrives = λ i t. given (activates (tickAt h t) (s t) i) 1;
   starts = λ i t. given ((s t) .started && eqb (callbackOf ((s t) .outcome)) (suc i)) 1;
   works = λ i t. hit (callbackOf ((s t) .outcome)) i;
   finishes = λ i t. hit (finishedOf ((s t) .outcome)) i;
@@ -136,7 +135,7 @@ module _ (tb : Table) (h : List Tick) (o : Orderly tb h) where
 
   -- what comes in, with whom a completion feeds
   queue : (i t : ℕ) → i < tb .count → (l : t < length h) → waitingOf ((tick t) .machine) i + hit (finishedOf ((tick t) .outcome)) i
-      ≡ waitingOf (state t) i + (given (has ((tickAt h t) .mask) i) 1 + fed (linked tb) (tb .count) (hit (finishedOf ((tick t) .outcome))) i)
+      ≡ waitingOf (state t) i + (given (activates (tickAt h t) (says t) i) 1 + fed (linked tb) (tb .count) (hit (finishedOf ((tick t) .outcome))) i)
   queue i t k l = omega (arith, did t l .queue i (omega (arith, so .few)), fed-next tb (tb .count) (finishedOf ((tick t) .outcome)) i (did t l .whose))
 
   pub local : Local (tb .count) (length h) (linked tb) (events h says) (states state)

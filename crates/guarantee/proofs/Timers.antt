@@ -34,7 +34,7 @@ use Rattle.levels.proofs.LevelLaws.{below-is, not-below, blocked-by}
 use Rattle.busy_window.specs.Flow.{counts}
 use Rattle.busy_window.specs.Level.{Urgent}
 use Rattle.busy_window.proofs.Level.{Blocked, in-set, set-blocked}
-use Rattle.guarantee.specs.History.{Tick, Result, resultOf, results, tickAt}
+use Rattle.guarantee.specs.History.{Tick, Result, resultOf, results, tickAt, activates}
 use Rattle.guarantee.specs.Within.{WithinCurves}
 use Rattle.guarantee.proofs.Ticks
 use Rattle.guarantee.proofs.Ticks.{before, at, effected, events, states, Orderly}
@@ -83,7 +83,7 @@ module _ (tb : Table) (analysed : Analysed tb) (h : List Tick) (short : length h
 
   -- one that waits keeps everyone below the level from starting
   goes-first : (i j t : ℕ) → i < n → j < n → t < length h → k i ≡ true → k j ≡ false
-      → 0 < waitingOf (before effected (fresh tb) h t) i + given (has ((tickAt h t) .mask) i) 1
+      → 0 < waitingOf (before effected (fresh tb) h t) i + given (activates (tickAt h t) (free t) i) 1
       → given ((free t) .started && eqb (callbackOf ((free t) .outcome)) (suc j)) 1 ≡ 0
   goes-first i j t li lj lt ei ej o = go ((free t) .started && eqb (callbackOf ((free t) .outcome)) (suc j)) refl
     where
@@ -120,7 +120,7 @@ module _ (tb : Table) (analysed : Analysed tb) (h : List Tick) (short : length h
 
   blocked : Blocked n k (read tb h free) (length h) ((levelOf tb x) .blocking)
   unfolding read levelOf
-  blocked = set-blocked n (length h) (linked tb) (events h free) (states (before effected (fresh tb) h)) (Ticks.local tb h orderly) k urgent (activatedTo tb h)
+  blocked = set-blocked n (length h) (linked tb) (events h free) (states (before effected (fresh tb) h)) (Ticks.local tb h orderly) k urgent (activatedTo tb h free)
       (Unrefused.flows tb analysed h short w) (length h) (arrivalsOf tb) (costOf tb) (supplyOf tb) (Unrefused.within-all tb analysed h short w) (sound-rising tb (analysed .sound))
       _ (λ j l e. blocked-by tb (lowerThan tb x) j l (flipped _ _ e))
 

@@ -19,9 +19,9 @@ use lib.ListN.{length, List·getD-eq-default}
 use Rattle.masks.specs.Mask.{has}
 use Rattle.masks.proofs.Slots.{has-zero}
 use Rattle.ranges.specs.Sum.{sum, given, hit}
-use Rattle.ranges.proofs.SumLaws.{sum-same, sum-none, le-or-lt}
+use Rattle.ranges.proofs.SumLaws.{sum-le, sum-same, sum-none, le-or-lt}
 use Rattle.ranges.proofs.LeastLaws.{lowest-never}
-use Rattle.ranges.proofs.EveryLaws.{holds, T-holds}
+use Rattle.ranges.proofs.EveryLaws.{holds, T-holds, never-both}
 use Rattle.table.proofs.WalkLaws.{rank}
 use Rattle.table.specs.declared.Table.{Table}
 use Rattle.numbers.specs.Numbers.{places, mostTicks, mostWaiting}
@@ -43,7 +43,7 @@ use Rattle.answers.specs.Outcome.{callbackOf}
 use Rattle.executor.specs.State.{fresh, waitingOf}
 use Rattle.executor.specs.Tick.{nextActivated, full}
 use Rattle.windows.proofs.TableLaws.{sound-rising}
-use Rattle.guarantee.specs.History.{Tick, Result, resultOf, ticked, results, tickAt, resultAt, over-window, releasedBy, activatedAt, startsAt}
+use Rattle.guarantee.specs.History.{Tick, Result, resultOf, ticked, results, tickAt, resultAt, over-window, releasedBy, activates, activatedAt, startsAt}
 use Rattle.guarantee.specs.Within.{WithinCurves}
 use Rattle.executor.specs.Parts.{Valid}
 use Rattle.executor.proofs.ValidLaws.{faultless}
@@ -64,12 +64,12 @@ window-sum f t (suc d) = rw add-suc (omega (arith, window-sum f t d))
 
 -- ---- heads
 
--- at a head, an activation is a bit of the mask
-pub head-activated : (tb : Table) (h : List Tick) (r : List Result) (i t : ℕ) → T (isHead tb i) → activatedAt tb h r i t ≡ has ((tickAt h t) .mask) i
+-- a head is activated by ticks
+pub head-activated : (tb : Table) (h : List Tick) (r : List Result) (i t : ℕ) → T (isHead tb i) → activatedAt tb h r i t ≡ activates (tickAt h t) (resultAt r t) i
 unfolding activatedAt
 head-activated tb h r i t x = go (isHead tb i) x
   where
-    go : (b : Bool) → T b → cond b (has ((tickAt h t) .mask) i) (releasedBy tb r i t) ≡ has ((tickAt h t) .mask) i
+    go : (b : Bool) → T b → cond b (activates (tickAt h t) (resultAt r t) i) (releasedBy tb r i t) ≡ activates (tickAt h t) (resultAt r t) i
     go true x = refl
     go false x = absurd x
 
@@ -82,13 +82,17 @@ chain-arrivals : (tb : Table) → Sound tb → (i : ℕ) → i < tb .count → a
 unfolding arrivalsOf
 chain-arrivals tb so i l = rw (head-self tb (headOf tb i) (head-is-head tb so i l))
 
--- activations of the head of i's chain at times before t
-abbrev pub activatedTo : Table → List Tick → ℕ → ℕ → ℕ
-activatedTo tb h i t = sum t (λ u. given (has ((tickAt h u) .mask) (headOf tb i)) 1)
+-- whoever is activated is in the mask
+pub in-mask : (x : Tick) (y : Result) (i : ℕ) → T (activates x y i) → T (has (x .mask) i)
+in-mask x y i e = e
+
+-- activations of the head of i's chain at times before t, in a history that says s
+abbrev pub activatedTo : Table → List Tick → (ℕ → Result) → ℕ → ℕ → ℕ
+activatedTo tb h s i t = sum t (λ u. given (activates (tickAt h u) (s u) (headOf tb i)) 1)
 
 -- the counts of a history that says s
 unfoldable pub read : Table → List Tick → (ℕ → Result) → Counts
-read tb h s = counts (activatedTo tb h) (events h s)
+read tb h s = counts (activatedTo tb h s) (events h s)
 
 module _ (tb : Table) (analysed : Analysed tb) (h : List Tick) (short : length h ≤ mostTicks)
     (w : WithinCurves tb h (results (fresh tb) h)) where
@@ -118,34 +122,34 @@ module _ (tb : Table) (analysed : Analysed tb) (h : List Tick) (short : length h
   real = resultAt (results m₀ h)
 
   -- nothing comes past the end of the list
-  pub none-past : (i t : ℕ) → length h ≤ t → has ((tickAt h t) .mask) i ≡ false
+  pub none-past : (i t : ℕ) → length h ≤ t → (y : Result) → ¬ (T (activates (tickAt h t) y i))
   unfolding tickAt
-  none-past i t l = ap (λ (x : Tick). has (x .mask) i) (List·getD-eq-default h _ l) ∙ has-zero i
+  none-past i t l y e = never-both _ (holds _ (in-mask (tickAt h t) y i e)) (ap (λ (x : Tick). has (x .mask) i) (List·getD-eq-default h _ l) ∙ has-zero i)
 
-  -- nobody that is named is in a mask
-  heads-only : (p i u : ℕ) → p < n → i < n → T (linked tb p i) → given (has ((tickAt h u) .mask) i) 1 ≡ 0
-  heads-only p i u hp hi x = go (le-or-lt (length h) u)
+  -- nobody that is named is activated by a tick
+  heads-only : (p i u : ℕ) → p < n → i < n → T (linked tb p i) → given (activates (tickAt h u) (free u) i) 1 ≡ 0
+  heads-only p i u hp hi x = given-no (activates (tickAt h u) (free u) i) 1 (λ y. go y (le-or-lt (length h) u))
     where
-      go : (length h ≤ u) ⊎ (u < length h) → given (has ((tickAt h u) .mask) i) 1 ≡ 0
-      go (inl l) = ap (λ (b : Bool). given b 1) (none-past i u l)
-      go (inr l) = given-no (has ((tickAt h u) .mask) i) 1 (λ y. head-unfed tb i (holds _ (w .heads i u l y .1)) p hp x)
+      go : T (activates (tickAt h u) (free u) i) → (length h ≤ u) ⊎ (u < length h) → ⊥
+      go y (inl l) = none-past i u l (free u) y
+      go y (inr l) = head-unfed tb i (holds _ (w .heads i u l (in-mask (tickAt h u) (free u) i y) .1)) p hp x
 
-  pub flows : (i t : ℕ) → i < n → activatedTo tb h i t ≡ sum t ((events h free) .arrives i) + fed (linked tb) n (λ p. activatedTo tb h p t) i
+  pub flows : (i t : ℕ) → i < n → activatedTo tb h free i t ≡ sum t ((events h free) .arrives i) + fed (linked tb) n (λ p. activatedTo tb h free p t) i
   unfolding events
-  flows i t l = chain-in n (linked tb) (headOf tb) (λ i u. given (has ((tickAt h u) .mask) i) 1) (chains tb (analysed .sound)) heads-only i t l
+  flows i t l = chain-in n (linked tb) (headOf tb) (λ i u. given (activates (tickAt h u) (free u) i) 1) (chains tb (analysed .sound)) heads-only i t l
 
   abbrev pub pure : Counts
   pure = read tb h free
 
-  no-other : (t d : ℕ) → t + d ≤ length h → Quiet n (counts (activatedTo tb h) (events h free)) t → Busy n (counts (activatedTo tb h) (events h free)) t (t + d)
-      → (counts (activatedTo tb h) (events h free)) .other (t + d) ≤ (counts (activatedTo tb h) (events h free)) .other t + 0
+  no-other : (t d : ℕ) → t + d ≤ length h → Quiet n (counts (activatedTo tb h free) (events h free)) t → Busy n (counts (activatedTo tb h free) (events h free)) t (t + d)
+      → (counts (activatedTo tb h free) (events h free)) .other (t + d) ≤ (counts (activatedTo tb h free) (events h free)) .other t + 0
   unfolding counts events
   no-other t d k _ _ = omega (arith, sum-none (λ u. 0) (t + d) (λ u _. refl))
 
   pub pure-runs : Run n (length h) 0 pure
   unfolding read
   pure-runs = runs n (length h) (linked tb) (events h free) (states (before effected m₀ h)) (Ticks.local tb h orderly)
-      (activatedTo tb h) flows (rank (nextOf tb) n) (rank-up tb (analysed .sound)) 0 no-other
+      (activatedTo tb h free) flows (rank (nextOf tb) n) (rank-up tb (analysed .sound)) 0 no-other
 
   -- ---- where the two runs agree
 
@@ -165,17 +169,27 @@ module _ (tb : Table) (analysed : Analysed tb) (h : List Tick) (short : length h
   same-sum : (f : ℕ → Result → ℕ) (t : ℕ) → t ≤ length h → Agree t → sum t (λ u. f u (real u)) ≡ sum t (λ u. f u (free u))
   same-sum f t l g = sum-same _ _ t (λ u k. ap (f u) (same-result t u l g k))
 
+  -- and in the tick after those in which they agree, whatever becomes of it, no more are activated without refusals than as it is
+  no-more : (t i : ℕ) → t < length h → Agree t → given (activates (tickAt h t) (free t) i) 1 ≤ given (activates (tickAt h t) (real t) i) 1
+  no-more t i l g = le-refl _
+
   -- ---- within the curves, as counts
 
-  arrive : (i t d : ℕ) → i < n → t + d ≤ length h → activatedTo tb h i (t + d) ≤ activatedTo tb h i t + arrivalsOf tb i d
-  arrive i t d l k = omega (
-    arith,
-    window-sum (λ u. given (has ((tickAt h u) .mask) (headOf tb i)) 1) t d,
-    sum-same (λ u. given (activatedAt tb h (results m₀ h) (headOf tb i) (t + u)) 1) (λ u. given (has ((tickAt h (t + u)) .mask) (headOf tb i)) 1) d
-        (λ u _. ap (λ (b : Bool). given b 1) (head-activated tb h (results m₀ h) (headOf tb i) (t + u) (leads tb (analysed .sound) i l))),
-    w .arrivals (headOf tb i) t d (head-lt tb i l) (leads tb (analysed .sound) i l) k,
-    ap (λ (f : ℕ → ℕ). f d) (chain-arrivals tb (analysed .sound) i l),
-  )
+  module _ (t : ℕ) (g : Agree t) (N : ℕ) (fits : N ≤ length h) (next : N ≤ suc t) where
+    fewer : (i u : ℕ) → u < N → given (activates (tickAt h u) (free u) i) 1 ≤ given (activates (tickAt h u) (real u) i) 1
+    fewer i u l = no-more u i (omega arith) (λ v k. g v (omega arith))
+
+    arrive : (i p d : ℕ) → i < n → p + d ≤ N → activatedTo tb h free i (p + d) ≤ activatedTo tb h free i p + arrivalsOf tb i d
+    arrive i p d l k = omega (
+      arith,
+      window-sum (λ u. given (activates (tickAt h u) (free u) (headOf tb i)) 1) p d,
+      sum-le (λ u. given (activates (tickAt h (p + u)) (free (p + u)) (headOf tb i)) 1) (λ u. given (activates (tickAt h (p + u)) (real (p + u)) (headOf tb i)) 1) d
+          (λ u b. fewer (headOf tb i) (p + u) (omega arith)),
+      sum-same (λ u. given (activatedAt tb h (results m₀ h) (headOf tb i) (p + u)) 1) (λ u. given (activates (tickAt h (p + u)) (real (p + u)) (headOf tb i)) 1) d
+          (λ u _. ap (λ (b : Bool). given b 1) (head-activated tb h (results m₀ h) (headOf tb i) (p + u) (leads tb (analysed .sound) i l))),
+      w .arrivals (headOf tb i) p d (head-lt tb i l) (leads tb (analysed .sound) i l) (omega arith),
+      ap (λ (f : ℕ → ℕ). f d) (chain-arrivals tb (analysed .sound) i l),
+    )
 
   supply : (t d : ℕ) → t + d ≤ length h → sum t (λ u. given ((tickAt h u) .supplied) 1) + supplyOf tb d ≤ sum (t + d) (λ u. given ((tickAt h u) .supplied) 1)
   supply t d k = omega (arith, window-sum (λ u. given ((tickAt h u) .supplied) 1) t d, w .supply t d k)
@@ -201,9 +215,10 @@ module _ (tb : Table) (analysed : Analysed tb) (h : List Tick) (short : length h
       gone : sum (t + d) (λ u. begins i u (real u)) - sum t (λ u. begins i u (real u)) ≡ over-window (λ u. begins i u (real u)) t d
       gone = omega (arith, window-sum (λ u. begins i u (real u)) t d)
 
-  within : (t : ℕ) → t ≤ length h → Agree t → Within n (length h) t pure (arrivalsOf tb) (costOf tb) (supplyOf tb)
+  -- the first t ticks in which they agree, and of the next, if there is one, its arrivals
+  within : (t N : ℕ) → t ≤ length h → N ≤ length h → N ≤ suc t → Agree t → Within n N t pure (arrivalsOf tb) (costOf tb) (supplyOf tb)
   unfolding read counts events
-  within t l g = record { arrive = arrive; charge = charges; supply = supply }
+  within t N l fits next g = record { arrive = arrive t g N fits next; charge = charges; supply = λ p d k. supply p d (omega arith) }
     where
       charges : (i p q : ℕ) → i < n → p ≤ q → q ≤ t → sum q (λ u. price i u (free u)) ≤ sum p (λ u. price i u (free u))
           + costOf tb i (sum q (λ u. begins i u (free u)) - sum p (λ u. begins i u (free u)))
@@ -228,16 +243,16 @@ module _ (tb : Table) (analysed : Analysed tb) (h : List Tick) (short : length h
 
   -- what waits before tick t, with what it adds
   room : (t : ℕ) → t < length h → Agree t → (j : ℕ) → j < n
-      → waitingOf (before effected m₀ h t) j + (given (has ((tickAt h t) .mask) j) 1 + hit (nextActivated tb ((free t) .outcome)) j) ≤ mostWaiting
+      → waitingOf (before effected m₀ h t) j + (given (activates (tickAt h t) (free t) j) 1 + hit (nextActivated tb ((free t) .outcome)) j) ≤ mostWaiting
   unfolding read counts events states sum
   room t l g j k = omega (
     arith,
     small j k,
     Ticks.did tb h orderly t l .queue j (omega (arith, analysed .sound .few)),
     rw (Ticks.next effected m₀ h t l) at (behind n (length h) (linked tb) (events h free) (states (before effected m₀ h)) (Ticks.local tb h orderly)
-        (activatedTo tb h) flows (rank (nextOf tb) n) (rank-up tb (analysed .sound)) (suc (rank (nextOf tb) n j)) j (suc t) (le-refl _) k l),
-    depth n (length h) pure (arrivalsOf tb) (costOf tb) (supplyOf tb) t (omega arith) 0 (shorter n (length h) t 0 pure (omega arith) pure-runs)
-        (within t (omega arith) g) (sound-rising tb (analysed .sound)) W (analysed .window) (analysed .supplied) j t k (le-refl t) l,
+        (activatedTo tb h free) flows (rank (nextOf tb) n) (rank-up tb (analysed .sound)) (suc (rank (nextOf tb) n j)) j (suc t) (le-refl _) k l),
+    depth n (suc t) pure (arrivalsOf tb) (costOf tb) (supplyOf tb) t (omega arith) 0 (shorter n (length h) t 0 pure (omega arith) pure-runs)
+        (within t (suc t) (omega arith) l (le-refl _) g) (sound-rising tb (analysed .sound)) W (analysed .window) (analysed .supplied) j t k (le-refl t) (le-refl _),
   )
 
   module _ (t : ℕ) (l : t < length h) (g : Agree t) where
@@ -310,4 +325,4 @@ module _ (tb : Table) (analysed : Analysed tb) (h : List Tick) (short : length h
   same t u l k = same-result t u l (agree t l) k
 
   pub within-all : Within n (length h) (length h) pure (arrivalsOf tb) (costOf tb) (supplyOf tb)
-  within-all = within (length h) (le-refl _) (agree (length h) (le-refl _))
+  within-all = within (length h) (length h) (le-refl _) (le-refl _) (omega arith) (agree (length h) (le-refl _))

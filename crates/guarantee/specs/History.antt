@@ -67,9 +67,13 @@ unfoldable pub releasedBy : Table → List Result → ℕ → ℕ → Bool
 releasedBy tb r i zero = false
 releasedBy tb r i (suc t) = releasesAt tb r i t
 
--- activation of a head by its bit in the mask, of a follower by that completion
+-- whether a tick activates the head in slot i, by the tick and its result: its bit is in the mask
+abbrev pub activates : Tick → Result → ℕ → Bool
+activates x y i = has (x .mask) i
+
+-- activation of a head by a tick, of a follower by that completion
 unfoldable pub activatedAt : Table → List Tick → List Result → ℕ → ℕ → Bool
-activatedAt tb h r i t = cond (isHead tb i) (has ((tickAt h t) .mask) i) (releasedBy tb r i t)
+activatedAt tb h r i t = cond (isHead tb i) (activates (tickAt h t) (resultAt r t) i) (releasedBy tb r i t)
 
 -- activations of slot i at times before t
 unfoldable pub activations : Table → List Tick → List Result → ℕ → ℕ → ℕ
