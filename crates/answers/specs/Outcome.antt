@@ -50,9 +50,9 @@ abbrev pub flag : Bool → ℕ
 flag true = 1
 flag false = 0
 
--- the reply, with what stands beside the outcome: whether one started, whether a poll fell in the tick, how many it took
-unfoldable pub replyOf : Outcome → Bool → Bool → ℕ → Reply
-replyOf o started polled gathered =
+-- the reply, with what stands beside the outcome: whether one started, whether a poll fell in the tick, how many it took, and whose beats were folded
+unfoldable pub replyOf : Outcome → Bool → Bool → ℕ → ℕ → Reply
+replyOf o started polled gathered folded =
     record {
       instance = instanceOf o;
       number = (refusalOf o) .number;
@@ -62,4 +62,5 @@ replyOf o started polled gathered =
       started = flag started;
       polled = flag polled;
       gathered = gathered;
+      folded = folded;
     }

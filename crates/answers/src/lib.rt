@@ -21,7 +21,8 @@ pub enum Outcome {
 }
 
 // The reply of a tick: the refusal's number and index, the answer (0 refused, 1 no supply, 2 idle, 3 ran, 4 finished) with
-// its callback and instance, and flags for a start and for a polling point, with the number of callbacks that it put in the cache.
+// its callback and instance, flags for a start and for a polling point, with the number of callbacks that it put in the cache, and the mask
+// of the timers whose beat was folded.
 #[repr(C)]
 pub struct Reply {
     pub instance: u32,
@@ -32,6 +33,7 @@ pub struct Reply {
     pub started: u8,
     pub polled: u8,
     pub gathered: u8,
+    pub folded: u16,
 }
 
 // 1 or 0.
@@ -61,8 +63,8 @@ impl Outcome {
     }
 
     // The reply, with what stands beside the outcome.
-    pub fn reply(self, started: bool, polled: bool, gathered: u8) -> Reply
-        ensures { λ r. ⌜ r ≡ replyOf self started polled gathered ⌝ }
+    pub fn reply(self, started: bool, polled: bool, gathered: u8, folded: u16) -> Reply
+        ensures { λ r. ⌜ r ≡ replyOf self started polled gathered folded ⌝ }
     {
         let mut r = Reply {
             instance: 0,
@@ -73,6 +75,7 @@ impl Outcome {
             started: flagged(started),
             polled: flagged(polled),
             gathered: gathered,
+            folded: folded,
         };
         match self {
             Outcome::Refused(why) => {

@@ -11,7 +11,7 @@ use lib.Dec.{eqb}
 use lib.ListN.{length, getD, getD-replicate}
 use borrow.Author.Tests.{eqb-false}
 use Rattle.numbers.specs.Numbers.{places, mostTicks, mostWaiting}
-use Rattle.masks.specs.Mask.{has}
+use Rattle.folding.specs.Folding.{kept}
 use Rattle.ranges.proofs.EveryLaws.{or-fails}
 use Rattle.ranges.proofs.SumLaws.{given-le, hit-le}
 use Rattle.table.specs.declared.Table.{Table}
@@ -44,13 +44,13 @@ use Rattle.cuorfelt.proofs.EdgeLaws.{start-new}
 
 -- ---- what the numbers stand for
 
-pub outcome-back : (o : Outcome) (started polled : Bool) (gathered : ℕ) → outcomeIn (replyOf o started polled gathered) ≡ o
+pub outcome-back : (o : Outcome) (started polled : Bool) (gathered folded : ℕ) → outcomeIn (replyOf o started polled gathered folded) ≡ o
 unfolding outcomeIn replyOf
-outcome-back (Refused r) started polled gathered = refl
-outcome-back (Answered NoSupply) started polled gathered = refl
-outcome-back (Answered Idle) started polled gathered = refl
-outcome-back (Answered (Ran i k)) started polled gathered = refl
-outcome-back (Answered (Finished i k)) started polled gathered = refl
+outcome-back (Refused r) started polled gathered folded = refl
+outcome-back (Answered NoSupply) started polled gathered folded = refl
+outcome-back (Answered Idle) started polled gathered folded = refl
+outcome-back (Answered (Ran i k)) started polled gathered folded = refl
+outcome-back (Answered (Finished i k)) started polled gathered folded = refl
 
 pub flag-back : (b : Bool) → isSet (flag b) ≡ b
 flag-back true = refl
@@ -92,7 +92,7 @@ reached-ticked m l x = tick-cases m (x .mask) (isSet (x .supplied)) (x .cost) (�
         let room = valid-of m (l .valid .sized) (cache-small m (l .valid)) (right .0) (right .1) .1 in
         record {
           valid = s .valid;
-          room = λ i h. omega (arith, s .queue i h, room i h, given-le (has (x .mask) i) 1, hit-le (nextActivated (m .table) (o .outcome)) i);
+          room = λ i h. omega (arith, s .queue i h, room i h, given-le (kept (x .mask) (o .folded) i) 1, hit-le (nextActivated (m .table) (o .outcome)) i);
           taken = omega (arith, s .clock, p .early);
         }
 

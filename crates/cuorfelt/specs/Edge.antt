@@ -26,11 +26,11 @@ stateStarted b state = elim (eqb ((startFault b state) .number) 0) [ true ↦ pa
 
 -- the reply of a tick
 abbrev pub replyTo : Ticked → Reply
-replyTo x = replyOf (x .outcome) (x .started) (x .polled) (x .gathered)
+replyTo x = replyOf (x .outcome) (x .started) (x .polled) (x .gathered) (x .folded)
 
 -- where the bytes have another length, or are not laid out as a state: row 29
 unfoldable pub noState : Reply
-noState = replyOf (Refused (refuse faultyState 0)) false false 0
+noState = replyOf (Refused (refuse faultyState 0)) false false 0 0
 
 -- a flag as C has it: 0, or anything else
 abbrev pub isSet : ℕ → Bool

@@ -96,7 +96,7 @@ fn no_state() -> Reply
     ensures { λ r. ⌜ r ≡ noState ⌝ }
 {
     let why = Outcome::Refused(table::refused(FAULTY_STATE, 0));
-    why.reply(false, false, 0)
+    why.reply(false, false, 0, 0)
 }
 
 // One tick on the state in the lent bytes; a refusal leaves them as they were. Supplied is 0, or anything else.
@@ -111,7 +111,7 @@ pub extern "C" fn cuorfelt_tick(state: &mut [u8], mask: u16, supplied: u8, cost:
     let m = held.machine;
     let x = m.tick_checked(mask, supplied != 0, cost);
     let outcome = x.outcome;
-    let r = outcome.reply(x.started, x.polled, x.gathered);
+    let r = outcome.reply(x.started, x.polled, x.gathered, x.folded);
     if r.number != 0 {
         return r;
     }

@@ -32,7 +32,7 @@ use Rattle.turns.proofs.TurnLaws.{step-cases}
 use Rattle.executor.specs.declared.Machine.{Machine}
 use Rattle.executor.specs.declared.Ticked.{Ticked}
 use Rattle.executor.specs.State.{waitingOf}
-use Rattle.executor.specs.Effect.{arrive, unsupplied, turnIn, instanceAt, ticked, served, effect}
+use Rattle.executor.specs.Effect.{foldedIn, arrive, unsupplied, turnIn, instanceAt, ticked, served, effect}
 use Rattle.executor.specs.Parts.{Valid, Admissible, Completes}
 use Rattle.executor.proofs.ValidLaws.{table-sound}
 
@@ -42,6 +42,9 @@ module _ (P : Ticked → Type 0) (m : Machine) (mask : ℕ) (supplied : Bool) (c
   abbrev a : Machine
   a = arrive m mask
 
+  abbrev f : ℕ
+  f = foldedIn m mask
+
   abbrev x : Turn
   x = turnIn a cost
 
@@ -49,16 +52,16 @@ module _ (P : Ticked → Type 0) (m : Machine) (mask : ℕ) (supplied : Bool) (c
   abbrev k : ℕ
   k = instanceAt a (x .chosen)
 
-  pub effect-cases : (supplied ≡ false → P (unsupplied a))
-      → (supplied ≡ true → x .chosen ≡ 0 → P (ticked a x (idles x)))
-      → ((i : ℕ) → supplied ≡ true → x .chosen ≡ suc i → x .units ≡ 1 → P (ticked a x (finishes x i k)))
-      → ((i : ℕ) → supplied ≡ true → x .chosen ≡ suc i → x .units ≢ 1 → P (ticked a x (continues x i k)))
+  pub effect-cases : (supplied ≡ false → P (unsupplied a f))
+      → (supplied ≡ true → x .chosen ≡ 0 → P (ticked a f x (idles x)))
+      → ((i : ℕ) → supplied ≡ true → x .chosen ≡ suc i → x .units ≡ 1 → P (ticked a f x (finishes x i k)))
+      → ((i : ℕ) → supplied ≡ true → x .chosen ≡ suc i → x .units ≢ 1 → P (ticked a f x (continues x i k)))
       → P (effect m mask supplied cost)
   unfolding effect served
   effect-cases none idle last more = go supplied refl
     where
-      go : (b : Bool) → supplied ≡ b → P (elim b [ true ↦ served a cost | false ↦ unsupplied a ])
-      go true s = step-cases x k (λ y. P (ticked a x y)) (idle s) (λ i. last i s) (λ i. more i s)
+      go : (b : Bool) → supplied ≡ b → P (elim b [ true ↦ served a f cost | false ↦ unsupplied a f ])
+      go true s = step-cases x k (λ y. P (ticked a f x y)) (idle s) (λ i. last i s) (λ i. more i s)
       go false s = none s
 
 -- ---- whose turn it is

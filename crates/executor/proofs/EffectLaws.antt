@@ -3,7 +3,7 @@
 --   completed-none, completed-some            the counts of a completion, likewise
 --   after-law, served-law                     what a tick gives after step 4
 --   effect-supplied, effect-unsupplied        the whole tick
-use mathlib.Core.Path.{_≡_, refl, sym, ap, _∙_}
+use mathlib.Core.Path.{_≡_, refl, sym, ap, ap₂, _∙_}
 use mathlib.Core.Logic.{_≢_}
 use mathlib.Core.Bool.{Bool, true, false}
 use mathlib.Core.List.{List}
@@ -19,7 +19,7 @@ use Rattle.queues.specs.Queues.{counted, completed}
 use Rattle.turns.specs.Turns.{stepOf}
 use Rattle.executor.specs.declared.Machine.{Machine}
 use Rattle.executor.specs.State.{withCounts, finishedAt}
-use Rattle.executor.specs.Effect.{arrive, unsupplied, turnIn, instanceAt, left, ticked, served, effect}
+use Rattle.executor.specs.Effect.{foldedIn, arrive, unsupplied, turnIn, instanceAt, left, ticked, served, effect}
 use Rattle.executor.specs.Parts.{completedBy}
 
 module _ (m : Machine) where
@@ -45,29 +45,30 @@ module _ (m : Machine) where
       slot : suc i - 1 ≡ i
       slot = omega arith
 
-  pub after-law : (x : Turn) (s : Step) (f : ℕ) (a : Machine) → f ≡ finishedOf (Answered (s .answer)) → a ≡ completedBy m f
+  pub after-law : (folded : ℕ) (x : Turn) (s : Step) (f : ℕ) (a : Machine) → f ≡ finishedOf (Answered (s .answer)) → a ≡ completedBy m f
       → record {
         machine = record { table = a .table; waiting = a .waiting; finished = a .finished; cache = s .cache; running = s .running; units = s .units; clock = m .clock + 1 };
         outcome = Answered (s .answer);
         started = x .started;
         polled = x .polled;
         gathered = x .gathered;
+        folded = folded;
       }
-      ≡ ticked m x s
+      ≡ ticked m folded x s
   unfolding completedBy
-  after-law x s f a e g = rw (g, e)
+  after-law folded x s f a e g = rw (g, e)
 
-pub served-law : (m : Machine) (cost : ℕ) (x : Turn) (k : ℕ) (s : Step) → x ≡ turnIn m cost → k ≡ instanceAt m (x .chosen) → s ≡ stepOf x k
-    → ticked m x s ≡ served m cost
+pub served-law : (m : Machine) (folded cost : ℕ) (x : Turn) (k : ℕ) (s : Step) → x ≡ turnIn m cost → k ≡ instanceAt m (x .chosen) → s ≡ stepOf x k
+    → ticked m folded x s ≡ served m folded cost
 unfolding served
-served-law m cost x k s e f g =
-    ap (ticked m x) (g ∙ ap (stepOf x) f) ∙ ap (λ (y : Turn). ticked m y (stepOf y (instanceAt m (y .chosen)))) e
+served-law m folded cost x k s e f g =
+    ap (ticked m folded x) (g ∙ ap (stepOf x) f) ∙ ap (λ (y : Turn). ticked m folded y (stepOf y (instanceAt m (y .chosen)))) e
 
-module _ (m : Machine) (mask : ℕ) (supplied : Bool) (cost : ℕ) (a : Machine) (e : a ≡ arrive m mask) where
-  pub effect-supplied : supplied ≡ true → served a cost ≡ effect m mask supplied cost
+module _ (m : Machine) (mask : ℕ) (supplied : Bool) (cost : ℕ) (f : ℕ) (e′ : f ≡ foldedIn m mask) (a : Machine) (e : a ≡ arrive m mask) where
+  pub effect-supplied : supplied ≡ true → served a f cost ≡ effect m mask supplied cost
   unfolding effect
-  effect-supplied s = ap (λ (y : Machine). served y cost) e ∙ sym (rw (s, effect))
+  effect-supplied s = ap₂ (λ (y : Machine) (z : ℕ). served y z cost) e e′ ∙ sym (rw (s, effect))
 
-  pub effect-unsupplied : supplied ≡ false → unsupplied a ≡ effect m mask supplied cost
+  pub effect-unsupplied : supplied ≡ false → unsupplied a f ≡ effect m mask supplied cost
   unfolding effect
-  effect-unsupplied s = ap unsupplied e ∙ sym (rw (s, effect))
+  effect-unsupplied s = ap₂ unsupplied e e′ ∙ sym (rw (s, effect))

@@ -27,12 +27,13 @@ use Rattle.answers.specs.Outcome.{callbackOf, instanceOf, finishedOf}
 use Rattle.queues.specs.Queues.{counted, completed}
 use Rattle.queues.proofs.QueueLaws.{counted-length, counted-at, completed-length, completed-at}
 use Rattle.turns.specs.declared.Turn.{Turn}
+use Rattle.folding.specs.Folding.{kept}
 use Rattle.turns.specs.Choosing.{isPolled}
 use Rattle.turns.specs.Turns.{idles, finishes, continues}
 use Rattle.executor.specs.declared.Machine.{Machine}
 use Rattle.executor.specs.declared.Ticked.{Ticked}
 use Rattle.executor.specs.State.{waitingOf, finishedAt}
-use Rattle.executor.specs.Effect.{arrive, unsupplied, turnIn, instanceAt, left, ticked, effect}
+use Rattle.executor.specs.Effect.{foldedIn, arrive, unsupplied, turnIn, instanceAt, left, ticked, effect}
 use Rattle.executor.specs.Tick.{nextActivated}
 use Rattle.executor.specs.Parts.{Valid}
 use Rattle.executor.proofs.ValidLaws.{table-sound, arrive-at, valid-arrived}
@@ -41,9 +42,9 @@ use Rattle.executor.proofs.Cases.{effect-cases, Turned, turned}
 pub record Stepped (t : Table) (m : Machine) (mask : ℕ) (supplied : Bool) (cost : ℕ) (o : Ticked) : Type 0 where
   pub held : o .machine .table ≡ t
   pub valid : Valid (o .machine)
-  -- what arrives waits, what finishes leaves, and a completion activates its next
+  -- what arrives and is kept waits, what finishes leaves, and a completion activates its next
   pub queue : (j : ℕ) → j < places
-      → waitingOf (o .machine) j + hit (finishedOf (o .outcome)) j ≡ waitingOf m j + (given (has mask j) 1 + hit (nextActivated t (o .outcome)) j)
+      → waitingOf (o .machine) j + hit (finishedOf (o .outcome)) j ≡ waitingOf m j + (given (kept mask (o .folded) j) 1 + hit (nextActivated t (o .outcome)) j)
   -- what starts runs until it finishes, one at a time
   pub turn : (j : ℕ) → hit (o .machine .running) j + hit (finishedOf (o .outcome)) j
       ≡ hit (m .running) j + given (o .started && eqb (callbackOf (o .outcome)) (suc j)) 1
@@ -52,15 +53,15 @@ pub record Stepped (t : Table) (m : Machine) (mask : ℕ) (supplied : Bool) (cos
   pub work : (j : ℕ) → hit (o .machine .running) j * o .machine .units + hit (callbackOf (o .outcome)) j
       ≡ hit (m .running) j * m .units + given (o .started && eqb (callbackOf (o .outcome)) (suc j)) 1 * cost
   -- a supplied tick does a unit if something waits after its arrivals
-  pub conserve : (j : ℕ) → j < t .count → 0 < waitingOf m j + given (has mask j) 1 → given supplied 1 ≤ sum (t .count) (hit (callbackOf (o .outcome)))
+  pub conserve : (j : ℕ) → j < t .count → 0 < waitingOf m j + given (kept mask (o .folded) j) 1 → given supplied 1 ≤ sum (t .count) (hit (callbackOf (o .outcome)))
   -- completions are counted, and so are ticks
   pub done : (j : ℕ) → j < places → finishedAt (o .machine) j ≡ finishedAt m j + hit (finishedOf (o .outcome)) j
   pub clock : o .machine .clock ≡ suc (m .clock)
   -- whoever is named is one of the table's; it waits, and its instance is the one after those finished
-  pub names : (i : ℕ) → callbackOf (o .outcome) ≡ suc i → (i < t .count) × (0 < waitingOf m i + given (has mask i) 1) × (instanceOf (o .outcome) ≡ suc (finishedAt m i))
+  pub names : (i : ℕ) → callbackOf (o .outcome) ≡ suc i → (i < t .count) × (0 < waitingOf m i + given (kept mask (o .folded) i) 1) × (instanceOf (o .outcome) ≡ suc (finishedAt m i))
   pub whose : (p : ℕ) → finishedOf (o .outcome) ≡ suc p → p < t .count
   -- where an unpolled callback waits after the arrivals, whoever starts is it or has the higher priority
-  pub urgent : (i j : ℕ) → i < t .count → 0 < waitingOf m i + given (has mask i) 1 → isPolled t i ≡ false
+  pub urgent : (i j : ℕ) → i < t .count → 0 < waitingOf m i + given (kept mask (o .folded) i) 1 → isPolled t i ≡ false
       → o .started ≡ true → callbackOf (o .outcome) ≡ suc j → i ≢ j → precedes t j i ≡ true
   pub answers : (y : Answer) × (o .outcome ≡ Answered y)
 
@@ -72,13 +73,20 @@ module _ (m : Machine) (ok : Valid m) (mask cost : ℕ) (priced : (1 ≤ cost) �
   abbrev a : Machine
   a = arrive m mask
 
+  -- those folded, and who comes
+  abbrev f : ℕ
+  f = foldedIn m mask
+
+  abbrev comes : ℕ → Bool
+  comes j = kept mask f j
+
   good : Valid a
   good = valid-arrived m ok mask heads
 
   so : Sound t
   so = table-sound t (ok .table)
 
-  at : (j : ℕ) → j < places → waitingOf a j ≡ waitingOf m j + given (has mask j) 1
+  at : (j : ℕ) → j < places → waitingOf a j ≡ waitingOf m j + given (comes j) 1
   at = arrive-at m ok mask
 
   abbrev x : Turn
@@ -87,7 +95,7 @@ module _ (m : Machine) (ok : Valid m) (mask cost : ℕ) (priced : (1 ≤ cost) �
   w : Turned a cost x
   w = turned a good cost priced
 
-  without : Stepped t m mask false cost (unsupplied a)
+  without : Stepped t m mask false cost (unsupplied a f)
   unfolding unsupplied nextAfter
   without = record {
     held = refl;
@@ -105,7 +113,7 @@ module _ (m : Machine) (ok : Valid m) (mask cost : ℕ) (priced : (1 ≤ cost) �
     answers = (_, refl);
   }
 
-  nobody : x .chosen ≡ 0 → Stepped t m mask true cost (ticked a x (idles x))
+  nobody : x .chosen ≡ 0 → Stepped t m mask true cost (ticked a f x (idles x))
   unfolding left counted nextAfter
   nobody z = (let n = w .nobody z in record {
     held = refl;
@@ -136,18 +144,18 @@ module _ (m : Machine) (ok : Valid m) (mask cost : ℕ) (priced : (1 ≤ cost) �
     instance = ap (instanceAt a) e ∙ omega arith
 
     -- what is said of it
-    named : (j : ℕ) → suc i ≡ suc j → (j < t .count) × (0 < waitingOf m j + given (has mask j) 1) × (instanceAt a (x .chosen) ≡ suc (finishedAt m j))
+    named : (j : ℕ) → suc i ≡ suc j → (j < t .count) × (0 < waitingOf m j + given (comes j) 1) × (instanceAt a (x .chosen) ≡ suc (finishedAt m j))
     named j q =
-        subst (λ (y : ℕ). (y < t .count) × (0 < waitingOf m y + given (has mask y) 1) × (instanceAt a (x .chosen) ≡ suc (finishedAt m y)))
+        subst (λ (y : ℕ). (y < t .count) × (0 < waitingOf m y + given (comes y) 1) × (instanceAt a (x .chosen) ≡ suc (finishedAt m y)))
         (omega arith)
         (l, omega (arith, waits, at i (omega (arith, l, so .few))), instance)
 
     -- who goes after it if it starts
-    ahead : (u j : ℕ) → u < t .count → 0 < waitingOf m u + given (has mask u) 1 → isPolled t u ≡ false
+    ahead : (u j : ℕ) → u < t .count → 0 < waitingOf m u + given (comes u) 1 → isPolled t u ≡ false
         → x .started ≡ true → suc i ≡ suc j → u ≢ j → precedes t j u ≡ true
     ahead u j h q p s f d = w .urgent u j h (omega (arith, at u (omega (arith, so .few)))) p s (e ∙ f) d
 
-    last : x .units ≡ 1 → Stepped t m mask true cost (ticked a x (finishes x i (instanceAt a (x .chosen))))
+    last : x .units ≡ 1 → Stepped t m mask true cost (ticked a f x (finishes x i (instanceAt a (x .chosen))))
     unfolding left nextAfter
     last u = record {
       held = refl;
@@ -193,7 +201,7 @@ module _ (m : Machine) (ok : Valid m) (mask cost : ℕ) (priced : (1 ≤ cost) �
             go (yes q) = absurd (never-both (has (withoutBit (x .cache) i) j) h (ap (has (withoutBit (x .cache) i)) q ∙ has-without-same (x .cache) i))
             go (no q) = (q, sym (has-without-other (x .cache) i j q) ∙ h)
 
-    more : x .units ≢ 1 → Stepped t m mask true cost (ticked a x (continues x i (instanceAt a (x .chosen))))
+    more : x .units ≢ 1 → Stepped t m mask true cost (ticked a f x (continues x i (instanceAt a (x .chosen))))
     unfolding left counted nextAfter
     more u = record {
       held = refl;
@@ -227,10 +235,10 @@ module _ (m : Machine) (ok : Valid m) (mask cost : ℕ) (priced : (1 ≤ cost) �
   pub steps : (supplied : Bool) → Stepped t m mask supplied cost (effect m mask supplied cost)
   steps supplied =
       effect-cases (Stepped t m mask supplied cost) m mask supplied cost
-      (λ s. subst (λ (b : Bool). Stepped t m mask b cost (unsupplied a)) (sym s) without)
-      (λ s z. subst (λ (b : Bool). Stepped t m mask b cost (ticked a x (idles x))) (sym s) (nobody z))
-      (λ i s e u. subst (λ (b : Bool). Stepped t m mask b cost (ticked a x (finishes x i (instanceAt a (x .chosen))))) (sym s) (last i e u))
-      (λ i s e u. subst (λ (b : Bool). Stepped t m mask b cost (ticked a x (continues x i (instanceAt a (x .chosen))))) (sym s) (more i e u))
+      (λ s. subst (λ (b : Bool). Stepped t m mask b cost (unsupplied a f)) (sym s) without)
+      (λ s z. subst (λ (b : Bool). Stepped t m mask b cost (ticked a f x (idles x))) (sym s) (nobody z))
+      (λ i s e u. subst (λ (b : Bool). Stepped t m mask b cost (ticked a f x (finishes x i (instanceAt a (x .chosen))))) (sym s) (last i e u))
+      (λ i s e u. subst (λ (b : Bool). Stepped t m mask b cost (ticked a f x (continues x i (instanceAt a (x .chosen))))) (sym s) (more i e u))
 
 -- the same over a table that the state is known to hold
 pub steps-over : (t : Table) (m : Machine) → m .table ≡ t → Valid m → (mask cost : ℕ) → (1 ≤ cost) × (cost ≤ longest) → foreign t mask ≡ 0

@@ -1,14 +1,15 @@
 -- The tick, refusal by refusal in the order of the page. Assumes nothing.
---   finished-le, full-is, admitted-full, admitted-free                 refusal 21, or the effect
+--   finished-le, effect-folded, full-is, admitted-full, admitted-free  refusal 21, or the effect
 --   passes, not-refused                                                where nothing refuses it, the tick has its effect
 --   tick-faulty, tick-spent, tick-cost, tick-foreign, tick-admitted    29, 18, 19, 20, and what follows
-use mathlib.Core.Path.{_≡_, refl, sym, subst, ap, _∙_}
+use mathlib.Core.Path.{_≡_, refl, sym, subst, ap, ap₂, _∙_}
 use mathlib.Core.Logic.{_≢_}
 use mathlib.Core.Bool.{Bool, true, false, and-false}
 use Prim.Native.Nat.{ℕ, zero, suc, _-_, _≤_, _<_}
 use native.Mathlib.Omega.{arith}
 use lib.Dec.{leb}
 use borrow.Author.Tests.{eq-eqb, ne-eqb, le-leb, lt-leb}
+use Rattle.masks.specs.Parts.{except}
 use Rattle.table.specs.declared.Refusal.{Refusal}
 use Rattle.table.specs.Values.{refuse, accepted, lowestRefused}
 use Rattle.table.specs.Links.{nextAfter, foreign}
@@ -18,7 +19,7 @@ use Rattle.executor.specs.declared.Machine.{Machine}
 use Rattle.numbers.specs.Numbers
 use Rattle.executor.specs.State.{faulty}
 use Rattle.executor.specs.declared.Ticked.{Ticked}
-use Rattle.executor.specs.Effect.{arrive, turnIn, unsupplied, effect}
+use Rattle.executor.specs.Effect.{foldedIn, arrive, turnIn, unsupplied, effect}
 use Rattle.executor.specs.Tick.{full, tickFault, refused, tickOf}
 use Rattle.executor.specs.Parts.{Admissible, admitted}
 use Rattle.executor.proofs.ValidLaws.{table-sound, valid-arrived}
@@ -42,6 +43,11 @@ module _ (m : Machine) (mask : ℕ) (supplied : Bool) (cost : ℕ) where
       w : Turned (arrive m mask) cost (turnIn (arrive m mask) cost)
       w = turned (arrive m mask) (valid-arrived m (ok .valid) mask heads) cost (ok .priced)
 
+  -- the effect tells whom it folds
+  pub effect-folded : (effect m mask supplied cost) .folded ≡ foldedIn m mask
+  unfolding unsupplied
+  effect-folded = effect-cases (λ o. o .folded ≡ foldedIn m mask) m mask supplied cost (λ s. refl) (λ s e. refl) (λ i s e u. refl) (λ i s e u. refl)
+
   -- what the code finds on the way to it
   module _ (r : Ticked) (e : r ≡ effect m mask supplied cost) (x : ℕ) (f : x ≡ finishedOf (r .outcome)) where
     finished-is : x ≡ finishedOf ((effect m mask supplied cost) .outcome)
@@ -50,9 +56,9 @@ module _ (m : Machine) (mask : ℕ) (supplied : Bool) (cost : ℕ) where
     pub finished-few : Admissible Numbers.mostWaiting m cost → foreign (m .table) mask ≡ 0 → x ≤ Numbers.places
     finished-few ok heads = subst (λ (y : ℕ). y ≤ Numbers.places) (sym finished-is) (finished-le ok heads)
 
-    pub full-is : (n y : ℕ) → n ≡ nextAfter (m .table) x → y ≡ fullWith (m .waiting) mask n → y ≡ full m mask supplied cost
+    pub full-is : (n k y : ℕ) → n ≡ nextAfter (m .table) x → k ≡ except mask (r .folded) → y ≡ fullWith (m .waiting) k n → y ≡ full m mask supplied cost
     unfolding full
-    full-is n y g h = h ∙ ap (fullWith (m .waiting) mask) (g ∙ ap (nextAfter (m .table)) finished-is)
+    full-is n k y g q h = h ∙ ap₂ (fullWith (m .waiting)) (q ∙ ap (except mask) (ap (λ (z : Ticked). z .folded) e ∙ effect-folded)) (g ∙ ap (nextAfter (m .table)) finished-is)
 
   module _ (x : ℕ) (e : x ≡ full m mask supplied cost) where
     pub admitted-full : x ≢ 0 → refused m (refuse Numbers.queueFull x) ≡ admitted m mask supplied cost

@@ -3,7 +3,7 @@
 --   valid-of, faultless                            what row 29 leaves of a state, and that it is all that row asks
 --   fresh-table, fresh-valid                                    a fresh state
 --   arrive-at, valid-arrived, admissible-arrived  the state after the arrivals
-use mathlib.Core.Path.{_≡_, refl, ap₂, _∙_}
+use mathlib.Core.Path.{_≡_, refl, ap, ap₂, _∙_}
 use mathlib.Core.Logic.{_⊎_, inl, inr}
 use mathlib.Core.Bool.{Bool, true, false, _||_}
 use Prim.Native.Nat.{ℕ, zero, suc, _+_, _-_, _≤_, _<_}
@@ -26,9 +26,11 @@ use Rattle.faults.specs.Faults.{tableFault, slotFault, runWrong}
 use Rattle.faults.proofs.ValueLaws.{SlotRight, RunRight, slot-right, slot-faultless, run-right, run-faultless}
 use Rattle.turns.specs.Choosing.{isPolled}
 use Rattle.queues.proofs.ArrivedLaws.{arrived-length, arrived-at}
+use Rattle.folding.specs.Folding.{kept}
+use Rattle.folding.proofs.FoldingLaws.{kept-has, kept-in}
 use Rattle.executor.specs.declared.Machine.{Machine}
 use Rattle.executor.specs.State.{fresh, waitingOf, finishedAt, stateFault, faulty}
-use Rattle.executor.specs.Effect.{arrive}
+use Rattle.executor.specs.Effect.{foldedIn, keptIn, arrive}
 use Rattle.table.specs.Links.{foreign}
 use Rattle.table.proofs.MaskLaws.{masked}
 use Rattle.executor.specs.Parts.{Valid, Room, Admissible}
@@ -129,14 +131,20 @@ fresh-valid t ok = record {
 -- ---- the arrivals
 
 module _ (m : Machine) (ok : Valid m) (mask : ℕ) where
-  pub arrive-at : (j : ℕ) → j < places → waitingOf (arrive m mask) j ≡ waitingOf m j + given (has mask j) 1
-  arrive-at j l = arrived-at mask (m .waiting) j l (omega (arith, ok .sized .0))
+  -- whose arrival is kept
+  abbrev pub comes : ℕ → Bool
+  comes j = kept mask (foldedIn m mask) j
+
+  pub arrive-at : (j : ℕ) → j < places → waitingOf (arrive m mask) j ≡ waitingOf m j + given (comes j) 1
+  arrive-at j l =
+      arrived-at (keptIn m mask) (m .waiting) j l (omega (arith, ok .sized .0))
+      ∙ ap (λ (b : Bool). waitingOf m j + given b 1) (kept-has mask (foldedIn m mask) j)
 
   pub valid-arrived : foreign (m .table) mask ≡ 0 → Valid (arrive m mask)
   valid-arrived heads = record {
     table = ok .table;
-    sized = (arrived-length mask (m .waiting) ∙ ok .sized .0, ok .sized .1);
-    beyond = λ i k l. (omega (arith, arrive-at i l, ok .beyond i k l .0, none i k l (has mask i) refl), ok .beyond i k l .1);
+    sized = (arrived-length (keptIn m mask) (m .waiting) ∙ ok .sized .0, ok .sized .1);
+    beyond = λ i k l. (omega (arith, arrive-at i l, ok .beyond i k l .0, none i k l (comes i) refl), ok .beyond i k l .1);
     cached = λ i h. (let a = ok .cached i h in (a .0, omega (arith, a .1, arrive-at i (omega (arith, a .0, few))), a .2));
     runner = λ i e. (let a = ok .runner i e in (a .0, omega (arith, a .1, arrive-at i (omega (arith, a .0, few))), a .2));
     measured = ok .measured;
@@ -147,14 +155,14 @@ module _ (m : Machine) (ok : Valid m) (mask : ℕ) where
       few : m .table .count ≤ places
       few = table-sound (m .table) (ok .table) .few
 
-      none : (i : ℕ) → m .table .count ≤ i → i < places → (b : Bool) → has mask i ≡ b → given b 1 ≡ 0
-      none i k l true h = absurd (omega (arith, masked (m .table) mask heads i l h .0))
+      none : (i : ℕ) → m .table .count ≤ i → i < places → (b : Bool) → comes i ≡ b → given b 1 ≡ 0
+      none i k l true h = absurd (omega (arith, masked (m .table) mask heads i l (kept-in mask (foldedIn m mask) i h) .0))
       none i k l false h = refl
 
 pub admissible-arrived : (m : Machine) (mask cost most : ℕ) → Admissible most m cost → foreign (m .table) mask ≡ 0 → Admissible (most + 1) (arrive m mask) cost
 admissible-arrived m mask cost most ok heads = record {
   valid = valid-arrived m (ok .valid) mask heads;
-  room = λ i l. omega (arith, arrive-at m (ok .valid) mask i l, ok .room i l, given-le (has mask i) 1);
+  room = λ i l. omega (arith, arrive-at m (ok .valid) mask i l, ok .room i l, given-le (comes m (ok .valid) mask i) 1);
   early = ok .early;
   priced = ok .priced;
 }

@@ -9,7 +9,9 @@ use Rattle.answers.specs.declared.Answer.the-variants.{NoSupply}
 use Rattle.answers.specs.declared.Outcome.{Outcome}
 use Rattle.answers.specs.declared.Outcome.the-variants.{Answered}
 use Rattle.answers.specs.Outcome.{finishedOf}
+use Rattle.masks.specs.Parts.{except}
 use Rattle.queues.specs.Queues.{arrived, counted, completed}
+use Rattle.folding.specs.Folding.{foldedOf}
 use Rattle.turns.specs.declared.Step.{Step}
 use Rattle.turns.specs.declared.Turn.{Turn}
 use Rattle.turns.specs.Turns.{turnOf, stepOf}
@@ -17,19 +19,34 @@ use Rattle.executor.specs.declared.Machine.{Machine}
 use Rattle.executor.specs.declared.Ticked.{Ticked}
 use Rattle.executor.specs.State.{withCounts}
 
--- step 1: the state with the arrivals of a mask
+-- the timers of a mask whose beat is folded (document 02, U6)
+abbrev pub foldedIn : Machine → ℕ → ℕ
+foldedIn m mask = foldedOf (m .table) (m .waiting) (m .running) mask
+
+-- and what of the mask is kept
+abbrev pub keptIn : Machine → ℕ → ℕ
+keptIn m mask = except mask (foldedIn m mask)
+
+-- step 1: the state with the arrivals of a mask that are kept
 abbrev pub arrive : Machine → ℕ → Machine
-arrive m mask = withCounts m (arrived mask (m .waiting)) (m .finished)
+arrive m mask = withCounts m (arrived (keptIn m mask) (m .waiting)) (m .finished)
 
 -- the state after a tick: one tick more is taken
 abbrev pub after : Machine → List ℕ → List ℕ → ℕ → ℕ → ℕ → Machine
 after m ws fs c r u =
     record { table = m .table; waiting = ws; finished = fs; cache = c; running = r; units = u; clock = m .clock + 1 }
 
--- step 2: nothing else happens
-unfoldable pub unsupplied : Machine → Ticked
-unsupplied m =
-    record { machine = after m (m .waiting) (m .finished) (m .cache) (m .running) (m .units); outcome = Answered NoSupply; started = false; polled = false; gathered = 0 }
+-- step 2: nothing else happens; those folded are told
+unfoldable pub unsupplied : Machine → ℕ → Ticked
+unsupplied m folded =
+    record {
+      machine = after m (m .waiting) (m .finished) (m .cache) (m .running) (m .units);
+      outcome = Answered NoSupply;
+      started = false;
+      polled = false;
+      gathered = 0;
+      folded = folded;
+    }
 
 -- step 3: whose turn the tick is
 abbrev pub turnIn : Machine → ℕ → Turn
@@ -45,9 +62,9 @@ unfoldable pub left : Table → ℕ → List ℕ → List ℕ
 left t zero ws = ws
 left t (suc i) ws = completed i (nextOf t i) ws
 
--- what a tick gives after step 4
-abbrev pub ticked : Machine → Turn → Step → Ticked
-ticked m x s =
+-- what a tick gives after step 4, with those folded
+abbrev pub ticked : Machine → ℕ → Turn → Step → Ticked
+ticked m folded x s =
     let o : Outcome = Answered (s .answer) in
     record {
       machine = after m (left (m .table) (finishedOf o) (m .waiting)) (counted (finishedOf o) (m .finished)) (s .cache) (s .running) (s .units);
@@ -55,12 +72,14 @@ ticked m x s =
       started = x .started;
       polled = x .polled;
       gathered = x .gathered;
+      folded = folded;
     }
 
 -- steps 3 and 4
-unfoldable pub served : Machine → ℕ → Ticked
-served m cost = (let x : Turn = turnIn m cost in ticked m x (stepOf x (instanceAt m (x .chosen))))
+unfoldable pub served : Machine → ℕ → ℕ → Ticked
+served m folded cost = (let x : Turn = turnIn m cost in ticked m folded x (stepOf x (instanceAt m (x .chosen))))
 
 -- the whole tick
 unfoldable pub effect : Machine → ℕ → Bool → ℕ → Ticked
-effect m mask supplied cost = elim supplied [ true ↦ served (arrive m mask) cost | false ↦ unsupplied (arrive m mask) ]
+effect m mask supplied cost =
+    elim supplied [ true ↦ served (arrive m mask) (foldedIn m mask) cost | false ↦ unsupplied (arrive m mask) (foldedIn m mask) ]

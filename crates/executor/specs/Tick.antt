@@ -14,16 +14,16 @@ use Rattle.numbers.specs.Numbers
 use Rattle.queues.specs.Queues.{fullWith}
 use Rattle.answers.specs.Outcome.{finishedOf}
 use Rattle.executor.specs.State.{faulty}
-use Rattle.executor.specs.Effect.{effect}
+use Rattle.executor.specs.Effect.{keptIn, effect}
 use Rattle.ranges.specs.Every.{within}
 
 -- the callback that a completion activates, an index; 0 where none is
 abbrev pub nextActivated : Table → Outcome → ℕ
 nextActivated t o = nextAfter t (finishedOf o)
 
--- row 21: the lowest full queue, before the tick, among those that its arrivals and its completion would add to
+-- row 21: the lowest full queue, before the tick, among those that its arrivals and its completion would add to; a beat that is folded adds to none
 unfoldable pub full : Machine → ℕ → Bool → ℕ → ℕ
-full m mask supplied cost = fullWith (m .waiting) mask (nextActivated (m .table) ((effect m mask supplied cost) .outcome))
+full m mask supplied cost = fullWith (m .waiting) (keptIn m mask) (nextActivated (m .table) ((effect m mask supplied cost) .outcome))
 
 -- the first refusal that applies, in the order of the rows
 unfoldable pub tickFault : Machine → ℕ → Bool → ℕ → Refusal
@@ -39,9 +39,9 @@ tickFault m mask supplied cost =
       ]
     ]
 
--- a refused tick: the state stays, and beside the refusal nothing starts, is polled or gathered
+-- a refused tick: the state stays, and beside the refusal nothing starts, is polled, gathered or folded
 unfoldable pub refused : Machine → Refusal → Ticked
-refused m r = record { machine = m; outcome = Refused r; started = false; polled = false; gathered = 0 }
+refused m r = record { machine = m; outcome = Refused r; started = false; polled = false; gathered = 0; folded = 0 }
 
 -- the tick
 unfoldable pub tickOf : Machine → ℕ → Bool → ℕ → Ticked

@@ -17,26 +17,35 @@ ghost use Rattle.answers.specs.declared.Outcome.the-variants.{Answered};
 ghost use Rattle.answers.specs.Outcome.{finishedOf};
 ghost use Rattle.table.specs.Links.{foreign};
 ghost use Rattle.executor.specs.State.{finishedAt};
-ghost use Rattle.executor.specs.Effect.{arrive, unsupplied, instanceAt, ticked, served, effect};
+ghost use Rattle.executor.specs.Effect.{foldedIn, arrive, unsupplied, instanceAt, ticked, served, effect};
 ghost use Rattle.executor.specs.Parts.{Room, Admissible, Completes, completedBy};
 
 impl Machine {
-    // Step 1: the state with the arrivals of the mask.
-    fn arrive(self, mask: u16) -> Machine
-        requires { ⌜ Room mostWaiting self ⌝ }
+    // The timers of the mask whose beat is folded.
+    fn folded(self, mask: u16) -> u16
+        ensures { λ r. ⌜ r ≡ foldedIn self mask ⌝ }
+    {
+        let t = self.table;
+        let counts = self.waiting;
+        folding::folded(t, counts, self.running, mask)
+    }
+
+    // Step 1: the state with the arrivals that are kept of the mask, those folded being known.
+    fn arrive(self, mask: u16, folded: u16) -> Machine
+        requires { ⌜ (Room mostWaiting self) × (folded ≡ foldedIn self mask) ⌝ }
         ensures { λ r. ⌜ r ≡ arrive self mask ⌝ }
     {
         let mut m = self;
         let counts = m.waiting;
-        let arrived = queues::arrivals::arrive(counts, mask);
+        let arrived = queues::arrivals::arrive(counts, masks::outside(mask, folded));
         m.waiting = arrived;
         m
     }
 
     // Step 2: a tick without supply ends with the arrivals.
-    fn unsupplied(self) -> Ticked
+    fn unsupplied(self, folded: u16) -> Ticked
         requires { ⌜ self .clock < mostTicks ⌝ }
-        ensures { λ r. ⌜ r ≡ unsupplied self ⌝ }
+        ensures { λ r. ⌜ r ≡ unsupplied self folded ⌝ }
     {
         let mut m = self;
         m.clock = m.clock + 1;
@@ -46,6 +55,7 @@ impl Machine {
             started: false,
             polled: false,
             gathered: 0,
+            folded: folded,
         }
     }
 
@@ -80,9 +90,9 @@ impl Machine {
     }
 
     // What the tick gives after step 4.
-    fn after(self, x: Turn, s: Step) -> Ticked
+    fn after(self, folded: u16, x: Turn, s: Step) -> Ticked
         requires { ⌜ (self .clock < mostTicks) × ((i : ℕ) → finishedOf (Answered (s .answer)) ≡ suc i → Completes self i) ⌝ }
-        ensures { λ r. ⌜ r ≡ ticked self x s ⌝ }
+        ensures { λ r. ⌜ r ≡ ticked self folded x s ⌝ }
     {
         let answer = s.answer;
         let outcome = Outcome::Answered(answer);
@@ -98,19 +108,20 @@ impl Machine {
             started: x.started,
             polled: x.polled,
             gathered: x.gathered,
+            folded: folded,
         }
     }
 
     // Steps 3 and 4.
-    fn serve(self, cost: u16) -> Ticked
+    fn serve(self, folded: u16, cost: u16) -> Ticked
         requires { ⌜ Admissible (mostWaiting + 1) self cost ⌝ }
-        ensures { λ r. ⌜ r ≡ served self cost ⌝ }
+        ensures { λ r. ⌜ r ≡ served self folded cost ⌝ }
     {
         let t = self.table;
         let counts = self.waiting;
         let x = turn(t, counts, self.cache, self.running, self.units, cost);
         let s = step(x, self.instance(x.chosen));
-        self.after(x, s)
+        self.after(folded, x, s)
     }
 
     // The whole tick.
@@ -118,10 +129,11 @@ impl Machine {
         requires { ⌜ (Admissible mostWaiting self cost) × (foreign (self .table) mask ≡ 0) ⌝ }
         ensures { λ r. ⌜ r ≡ effect self mask supplied cost ⌝ }
     {
-        let m = self.arrive(mask);
+        let folded = self.folded(mask);
+        let m = self.arrive(mask, folded);
         if supplied {
-            return m.serve(cost);
+            return m.serve(folded, cost);
         }
-        m.unsupplied()
+        m.unsupplied(folded)
     }
 }

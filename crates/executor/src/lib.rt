@@ -20,13 +20,14 @@ pub struct Machine {
 }
 
 // What a tick gives: the next state, the outcome, and beside it flags for a start and for a polling point, with the number
-// of callbacks that it put in the cache.
+// of callbacks that it put in the cache, and the mask of the timers whose beat was folded.
 pub struct Ticked {
     pub machine: Machine,
     pub outcome: answers::Outcome,
     pub started: bool,
     pub polled: bool,
     pub gathered: u8,
+    pub folded: u16,
 }
 
 // What a start gives: the fresh state, or the refusal beside the state that is zero throughout.

@@ -39,6 +39,7 @@ impl Machine {
             started: false,
             polled: false,
             gathered: 0,
+            folded: 0,
         }
     }
 
@@ -52,7 +53,7 @@ impl Machine {
         let t = self.table;
         let next = next_after(t, outcome.finished());
         let counts = self.waiting;
-        let full = full_with(counts, mask, next);
+        let full = full_with(counts, masks::outside(mask, ticked.folded), next);
         if full != 0 {
             return self.refuse(QUEUE_FULL, full);
         }

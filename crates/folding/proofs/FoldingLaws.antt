@@ -1,11 +1,12 @@
 -- Beats that are folded, and arrivals that are kept. Assumes nothing.
 --   folds-not, folds-behind, folds-other   one beat, by its kind and by whether its callback runs
 --   Sifted, sifted, sifted-took, sifted-left, sifted-all   the slots of a mask that pass a test, looked at one after the other
---   kept-has, kept-in                      what is kept, as a mask; it is in the mask
+--   kept-has, kept-in, kept-most           what is kept, as a mask; it is in the mask; nothing folded, nothing more is kept
 use mathlib.Core.Path.{_≡_, refl, sym, ap, _∙_}
 use mathlib.Core.Logic.{_≢_}
 use mathlib.Core.Bool.{Bool, true, false, not, _&&_, _||_}
-use Prim.Native.Nat.{ℕ, suc, _<_}
+use Prim.Native.Nat.{ℕ, suc, _≤_, _<_}
+use native.Mathlib.Nat.{le-refl}
 use native.Mathlib.Decide.{ℕ-discrete}
 use native.Mathlib.Omega.{arith}
 use lib.Dec.{eqb, ltb}
@@ -14,7 +15,7 @@ use Rattle.masks.specs.Mask.{has, withBit, withoutBit, gather}
 use Rattle.masks.specs.Parts.{except}
 use Rattle.masks.proofs.Slots.{has-zero, has-with-same, has-with-other, has-without-same, has-without-other, has-except, with-lt, without-le, mask-ext}
 use Rattle.masks.proofs.Gather.{gather-in, gather-lt}
-use Rattle.ranges.specs.Sum.{hit}
+use Rattle.ranges.specs.Sum.{given, hit}
 use Rattle.ranges.proofs.SumLaws.{hit-self, hit-other}
 use Rattle.ranges.proofs.EveryLaws.{and-holds}
 use Rattle.numbers.specs.Numbers.{timer}
@@ -97,3 +98,13 @@ kept-has mask folded i = has-except mask folded i
 pub kept-in : (mask folded i : ℕ) → kept mask folded i ≡ true → has mask i ≡ true
 unfolding kept
 kept-in mask folded i e = and-holds (has mask i) (not (has folded i)) e .0
+
+-- and most where nothing is folded
+pub kept-most : (mask folded i : ℕ) → given (kept mask folded i) 1 ≤ given (kept mask 0 i) 1
+unfolding kept
+kept-most mask folded i = rw (has-zero i) (go (has mask i) (has folded i))
+  where
+    go : (a b : Bool) → given (a && not b) 1 ≤ given (a && true) 1
+    go true true = omega arith
+    go true false = le-refl _
+    go false b = le-refl _

@@ -39,15 +39,19 @@ use Rattle.busy_window.proofs.Chain.{given-no, chain-in}
 use Rattle.executor.specs.declared.Machine.{Machine}
 use Rattle.executor.specs.declared.Ticked.{Ticked}
 use Rattle.queues.specs.Queues.{fullWith}
+use Rattle.folding.specs.Folding.{kept}
+use Rattle.folding.proofs.FoldingLaws.{kept-has, kept-in, kept-most}
 use Rattle.answers.specs.Outcome.{callbackOf}
 use Rattle.executor.specs.State.{fresh, waitingOf}
-use Rattle.executor.specs.Tick.{nextActivated, full}
+use Rattle.executor.specs.Effect.{keptIn}
+use Rattle.executor.specs.Tick.{nextActivated, full, refused}
 use Rattle.windows.proofs.TableLaws.{sound-rising}
 use Rattle.guarantee.specs.History.{Tick, Result, resultOf, ticked, results, tickAt, resultAt, over-window, releasedBy, activates, activatedAt, startsAt}
 use Rattle.guarantee.specs.Within.{WithinCurves}
 use Rattle.executor.specs.Parts.{Valid}
 use Rattle.executor.proofs.ValidLaws.{faultless}
-use Rattle.executor.proofs.TickLaws.{passes, not-refused}
+use Rattle.executor.proofs.TickLaws.{effect-folded, passes, not-refused}
+use Rattle.executor.proofs.TickCases.{tick-cases}
 use Rattle.guarantee.proofs.Ticks
 use Rattle.guarantee.proofs.Ticks.{before, at, effected, events, states, Orderly}
 use Rattle.guarantee.proofs.Analysed.{Analysed, chains, leads}
@@ -84,7 +88,7 @@ chain-arrivals tb so i l = rw (head-self tb (headOf tb i) (head-is-head tb so i 
 
 -- whoever is activated is in the mask
 pub in-mask : (x : Tick) (y : Result) (i : ℕ) → T (activates x y i) → T (has (x .mask) i)
-in-mask x y i e = e
+in-mask x y i e = T-holds _ (kept-in (x .mask) (y .folded) i (holds _ e))
 
 -- activations of the head of i's chain at times before t, in a history that says s
 abbrev pub activatedTo : Table → List Tick → (ℕ → Result) → ℕ → ℕ → ℕ
@@ -171,7 +175,12 @@ module _ (tb : Table) (analysed : Analysed tb) (h : List Tick) (short : length h
 
   -- and in the tick after those in which they agree, whatever becomes of it, no more are activated without refusals than as it is
   no-more : (t i : ℕ) → t < length h → Agree t → given (activates (tickAt h t) (free t) i) 1 ≤ given (activates (tickAt h t) (real t) i) 1
-  no-more t i l g = le-refl _
+  unfolding at refused
+  no-more t i l g =
+      let x = tickAt h t in
+      rw (Ticks.results-at m₀ h t l, same-state t (omega arith) g)
+      (tick-cases (before effected m₀ h t) (x .mask) (x .supplied) (x .cost) (λ o. given (kept (x .mask) ((free t) .folded) i) 1 ≤ given (kept (x .mask) (o .folded) i) 1)
+      (λ _. le-refl _) (λ _. kept-most (x .mask) ((free t) .folded) i))
 
   -- ---- within the curves, as counts
 
@@ -276,13 +285,18 @@ module _ (tb : Table) (analysed : Analysed tb) (h : List Tick) (short : length h
         go (inl b) = omega (arith, beyond j b k)
         go (inr b) = omega (arith, room t l g j b)
 
+    -- those kept are those that it activates
+    kept-is : (j : ℕ) → has (keptIn m (x .mask)) j ≡ activates x (free t) j
+    unfolding at
+    kept-is j = kept-has (x .mask) _ j ∙ ap (λ (f : ℕ). kept (x .mask) f j) (sym (effect-folded m (x .mask) (x .supplied) (x .cost)))
+
     -- 21
     none-full : full m (x .mask) (x .supplied) (x .cost) ≡ 0
     unfolding full fullWith at hit
-    none-full = lowest-never _ places (λ j k. none j k (has (x .mask) j) refl (eqb (nextActivated (m .table) ((free t) .outcome)) (suc j)) refl)
+    none-full = lowest-never _ places (λ j k. none j k (has (keptIn m (x .mask)) j) refl (eqb (nextActivated (m .table) ((free t) .outcome)) (suc j)) refl)
       where
         -- one that comes finds room
-        comes : (j : ℕ) → j < places → 0 < given (has (x .mask) j) 1 + given (eqb (nextActivated (m .table) ((free t) .outcome)) (suc j)) 1
+        comes : (j : ℕ) → j < places → 0 < given (activates x (free t) j) 1 + given (eqb (nextActivated (m .table) ((free t) .outcome)) (suc j)) 1
             → leb mostWaiting (waitingOf m j) ≡ false
         comes j k c = lt-leb mostWaiting (waitingOf m j) (go (le-or-lt n j))
           where
@@ -290,9 +304,9 @@ module _ (tb : Table) (analysed : Analysed tb) (h : List Tick) (short : length h
             go (inl b) = omega (arith, beyond j b k)
             go (inr b) = omega (arith, room t l g j b, ap (λ (y : Table). given (eqb (nextActivated y ((free t) .outcome)) (suc j)) 1) (valid .0))
 
-        none : (j : ℕ) → j < places → (a : Bool) → has (x .mask) j ≡ a → (b : Bool) → eqb (nextActivated (m .table) ((free t) .outcome)) (suc j) ≡ b
+        none : (j : ℕ) → j < places → (a : Bool) → has (keptIn m (x .mask)) j ≡ a → (b : Bool) → eqb (nextActivated (m .table) ((free t) .outcome)) (suc j) ≡ b
             → ((a || b) && leb mostWaiting (waitingOf m j)) ≡ false
-        none j k true p b q = comes j k (omega (arith, ap (λ (y : Bool). given y 1) p))
+        none j k true p b q = comes j k (omega (arith, ap (λ (y : Bool). given y 1) (sym (kept-is j) ∙ p)))
         none j k false p true q = comes j k (omega (arith, ap (λ (y : Bool). given y 1) q))
         none j k false p false q = refl
 

@@ -6,7 +6,7 @@ use Prim.Native.Nat.{ℕ, zero, suc, _+_}
 use lib.Dec.{T, eqb}
 use lib.ListN.{getD}
 use mathlib.Core.Path.{_≡_}
-use Rattle.masks.specs.Mask.{has}
+use Rattle.folding.specs.Folding.{kept}
 use Rattle.ranges.specs.Sum.{sum, given}
 use Rattle.table.specs.declared.Table.{Table}
 use Rattle.table.specs.Links.{linked, isHead}
@@ -30,9 +30,10 @@ pub record Result : Type 0 where
   pub started : Bool
   pub polled : Bool
   pub gathered : ℕ
+  pub folded : ℕ
 
 abbrev pub resultOf : Ticked → Result
-resultOf x = record { outcome = x .outcome; started = x .started; polled = x .polled; gathered = x .gathered }
+resultOf x = record { outcome = x .outcome; started = x .started; polled = x .polled; gathered = x .gathered; folded = x .folded }
 
 -- one tick of the machine
 abbrev pub ticked : Machine → Tick → Ticked
@@ -48,7 +49,7 @@ unfoldable pub tickAt : List Tick → ℕ → Tick
 tickAt h t = getD h t (record { mask = 0; supplied = false; cost = 1 })
 
 unfoldable pub resultAt : List Result → ℕ → Result
-resultAt r t = getD r t (record { outcome = Answered NoSupply; started = false; polled = false; gathered = 0 })
+resultAt r t = getD r t (record { outcome = Answered NoSupply; started = false; polled = false; gathered = 0; folded = 0 })
 
 -- a window: f summed over D consecutive ticks from tick t on
 abbrev pub over-window : (ℕ → ℕ) → ℕ → ℕ → ℕ
@@ -67,9 +68,9 @@ unfoldable pub releasedBy : Table → List Result → ℕ → ℕ → Bool
 releasedBy tb r i zero = false
 releasedBy tb r i (suc t) = releasesAt tb r i t
 
--- whether a tick activates the head in slot i, by the tick and its result: its bit is in the mask
+-- whether a tick activates the head in slot i, by the tick and its result: its bit is in the mask, and its beat was not folded (document 02, U6)
 abbrev pub activates : Tick → Result → ℕ → Bool
-activates x y i = has (x .mask) i
+activates x y i = kept (x .mask) (y .folded) i
 
 -- activation of a head by a tick, of a follower by that completion
 unfoldable pub activatedAt : Table → List Tick → List Result → ℕ → ℕ → Bool

@@ -4,14 +4,15 @@
 -- The window is 13, the bounds are 5, 11 and 11. The service finishes for the first time at 13, its head's activation being at 2: just the bound.
 -- Edition 2: the same supply; a timer (T 12, J 14, d 3, entry 2) and two subscriptions (T 29, J 5, d 7, entry 1; T 25, J 9, d 11, entries 1, 2).
 -- The window is 9, the bounds are 6, 9 and 9. The timer's second activation, at 3, finds both subscriptions in the cache; it waits until they have run and
--- a polling point takes it at 7, and finishes at 9: just the bound. In edition 1 it would have run at 4.
+-- a polling point takes it at 7, and finishes at 9: just the bound. In edition 1 it would have run at 4. It beats in each tick from 0 to 7; all beats but those
+-- at 0 and 3 find an instance that waits unstarted, that at 7 in the very tick in which it starts, and are folded. The curve would not bear them.
 -- Behind a delay of 3: the same supply, so 3 + 2 × (5 - 4) = 5 ticks without any at worst; a timer (T 30, d 30, entry 2) and a subscription that it activates
 -- (entry 1). The window is 8, the bounds are 7 and 8. These 5 ticks begin with the timer's activation at 2, with the supply untouched before; the subscription
 -- finishes at 10: just the bound. Without the delay the history would not be within the curves, the window would be 5, the bounds 4 and 5.
 -- Held up: the same supply, without delay; two timers (T 12, d 12, entry 1; T 15, d 15, entry 2) and a subscription (T 30, d 30, entry 4). The window is 10,
 -- the bounds are 6, 9 and 10: B is 3 for both timers, what is left of the subscription when it has just started. It starts at 0; both timers are activated at
 -- 1, when the supply fails for two ticks, and wait until it has finished. The first finishes at 7, the second at 10: each just at its bound. Over all callbacks
--- both had 10, which no history of the first can meet.
+-- both had 10, which no history of the first can meet. Until they start both beat in each tick; these beats are folded.
 use mathlib.Core.Bool.{true, false}
 use mathlib.Core.List.{List, [], _∷_, _++_}
 use Prim.Native.Nat.{ℕ}
@@ -50,28 +51,32 @@ off mask = record { mask = mask; supplied = false; cost = 1 }
 -- what ticks say: no supply; idle, at a polling point that takes none; goes on; finishes; and the first two of an instance that starts,
 -- chosen at a polling point that takes g, or at none (a timer of edition 1, or from the cache)
 abbrev none : Result
-none = record { outcome = Answered NoSupply; started = false; polled = false; gathered = 0 }
+none = record { outcome = Answered NoSupply; started = false; polled = false; gathered = 0; folded = 0 }
 
 abbrev idle : Result
-idle = record { outcome = Answered Idle; started = false; polled = true; gathered = 0 }
+idle = record { outcome = Answered Idle; started = false; polled = true; gathered = 0; folded = 0 }
 
 abbrev goes-on : ℕ → ℕ → Result
-goes-on i k = record { outcome = Answered (Ran i k); started = false; polled = false; gathered = 0 }
+goes-on i k = record { outcome = Answered (Ran i k); started = false; polled = false; gathered = 0; folded = 0 }
 
 abbrev ends : ℕ → ℕ → Result
-ends i k = record { outcome = Answered (Finished i k); started = false; polled = false; gathered = 0 }
+ends i k = record { outcome = Answered (Finished i k); started = false; polled = false; gathered = 0; folded = 0 }
 
 abbrev starts : ℕ → ℕ → Result
-starts i k = record { outcome = Answered (Ran i k); started = true; polled = false; gathered = 0 }
+starts i k = record { outcome = Answered (Ran i k); started = true; polled = false; gathered = 0; folded = 0 }
 
 abbrev starts-ends : ℕ → ℕ → Result
-starts-ends i k = record { outcome = Answered (Finished i k); started = true; polled = false; gathered = 0 }
+starts-ends i k = record { outcome = Answered (Finished i k); started = true; polled = false; gathered = 0; folded = 0 }
 
 abbrev polls-starts : ℕ → ℕ → ℕ → Result
-polls-starts i k g = record { outcome = Answered (Ran i k); started = true; polled = true; gathered = g }
+polls-starts i k g = record { outcome = Answered (Ran i k); started = true; polled = true; gathered = g; folded = 0 }
 
 abbrev polls-ends : ℕ → ℕ → ℕ → Result
-polls-ends i k g = record { outcome = Answered (Finished i k); started = true; polled = true; gathered = g }
+polls-ends i k g = record { outcome = Answered (Finished i k); started = true; polled = true; gathered = g; folded = 0 }
+
+-- the same with beats that were folded
+abbrev folds : ℕ → Result → Result
+folds mask r = record { outcome = r .outcome; started = r .started; polled = r .polled; gathered = r .gathered; folded = mask }
 
 -- the timer is activated at 2, 8 and 22, the subscription at 2, 10 and 24
 unfoldable pub one : Case
@@ -93,16 +98,17 @@ one = record {
   activated = 2;
 }
 
--- the timer is activated at 0, 3 and 10, the subscriptions at 0 and 1; the first polling point takes all three
+-- the timer beats in each tick up to 7, and is activated at 0, 3 and 10; the subscriptions at 0 and 1; the first polling point takes all three
 unfoldable pub two : Case
 two = record {
   bytes = header 2 3 0 ++ (callback 1 0 1 12 14 3 2 0 ++ (callback 2 0 1 29 5 7 1 0 ++ callback 2 0 2 25 9 11 1 2));
   ticks =
-      off 3 ∷ off 4 ∷ on 0 2 ∷ on 1 1 ∷ on 0 1 ∷ on 0 1 ∷ off 0 ∷ on 0 2 ∷ on 0 1 ∷ on 0 1
+      off 3 ∷ off 5 ∷ on 1 2 ∷ on 1 1 ∷ on 1 1 ∷ on 1 1 ∷ off 1 ∷ on 1 2 ∷ on 0 1 ∷ on 0 1
       ∷ on 1 2 ∷ off 0 ∷ on 0 1 ∷ on 0 1
       ∷ [];
   says =
-      none ∷ none ∷ polls-starts 1 1 3 ∷ ends 1 1 ∷ starts-ends 2 1 ∷ starts-ends 3 1 ∷ none ∷ polls-starts 1 2 1 ∷ ends 1 2 ∷ idle
+      none ∷ folds 1 none ∷ folds 1 (polls-starts 1 1 3) ∷ ends 1 1 ∷ folds 1 (starts-ends 2 1) ∷ folds 1 (starts-ends 3 1) ∷ folds 1 none ∷ folds 1 (polls-starts 1 2 1)
+      ∷ ends 1 2 ∷ idle
       ∷ polls-starts 1 3 1 ∷ none ∷ ends 1 3 ∷ idle
       ∷ [];
   row = 6 ∷ 9 ∷ 9 ∷ replicate 13 0;
@@ -123,13 +129,15 @@ delayed = record {
   activated = 2;
 }
 
--- the subscription is activated at 0, both timers at 1, in the first of two ticks without supply; the second timer's bound is met, and so is the first's
+-- the subscription is activated at 0, both timers at 1, in the first of two ticks without supply, and from there on beat in each tick until they start;
+-- the second timer's bound is met, and so is the first's
 unfoldable pub held-up : Case
 held-up = record {
   bytes = header 1 3 0 ++ (callback 1 0 1 12 0 12 1 0 ++ (callback 1 0 1 15 0 15 2 0 ++ callback 2 0 1 30 0 30 4 0));
-  ticks = on 4 4 ∷ off 3 ∷ off 0 ∷ on 0 1 ∷ on 0 1 ∷ on 0 1 ∷ on 0 1 ∷ off 0 ∷ on 0 2 ∷ on 0 1 ∷ on 0 1 ∷ on 0 1 ∷ [];
+  ticks = on 4 4 ∷ off 3 ∷ off 3 ∷ on 3 1 ∷ on 3 1 ∷ on 3 1 ∷ on 3 1 ∷ off 2 ∷ on 2 2 ∷ on 0 1 ∷ on 0 1 ∷ on 0 1 ∷ [];
   says =
-      polls-starts 3 1 1 ∷ none ∷ none ∷ goes-on 3 1 ∷ goes-on 3 1 ∷ ends 3 1 ∷ starts-ends 1 1 ∷ none ∷ starts 2 1 ∷ ends 2 1 ∷ idle ∷ idle
+      polls-starts 3 1 1 ∷ none ∷ folds 3 none ∷ folds 3 (goes-on 3 1) ∷ folds 3 (goes-on 3 1) ∷ folds 3 (ends 3 1) ∷ folds 3 (starts-ends 1 1) ∷ folds 2 none
+      ∷ folds 2 (starts 2 1) ∷ ends 2 1 ∷ idle ∷ idle
       ∷ [];
   row = 6 ∷ 9 ∷ 10 ∷ replicate 13 0;
   slot = 1;

@@ -64,6 +64,7 @@ fn print_tick(place: u64, ticked: Ticked) {
             print_flag(ticked.started);
             print_flag(ticked.polled);
             print_field(ticked.gathered as u64);
+            print_field(ticked.folded as u64);
             io::write_all(STDOUT_FILENO, b"\n");
         }
     }

@@ -22,10 +22,11 @@ use Rattle.lent_guarantee.specs.Claim.{ticks, resultIn, resultsIn, LentG
 result-back : (x : Ticked) → resultIn (replyTo x) ≡ resultOf x
 unfolding replyOf
 result-back x = λ i. record {
-  outcome = outcome-back (x .outcome) (x .started) (x .polled) (x .gathered) i;
+  outcome = outcome-back (x .outcome) (x .started) (x .polled) (x .gathered) (x .folded) i;
   started = flag-back (x .started) i;
   polled = flag-back (x .polled) i;
   gathered = x .gathered;
+  folded = x .folded;
 }
 
 -- and so along the list

@@ -26,7 +26,7 @@ ticks (x ∷ h) = tickOfCall x ∷ ticks h
 
 -- a reply as a tick's result
 abbrev pub resultIn : Reply → Result
-resultIn r = record { outcome = outcomeIn r; started = isSet (r .started); polled = isSet (r .polled); gathered = r .gathered }
+resultIn r = record { outcome = outcomeIn r; started = isSet (r .started); polled = isSet (r .polled); gathered = r .gathered; folded = r .folded }
 
 unfoldable pub resultsIn : List Reply → List Result
 resultsIn [] = []

@@ -11,7 +11,7 @@ use Rattle.cuorfelt.proofs.no_state.Tie as tie
 
 returns : tie.Need-returns
 unfolding noState
-returns c = c .reply .ensures ∙ ap (λ (r : Refusal). replyOf (Refused r) false false 0) (c .before .refused .ensures)
+returns c = c .reply .ensures ∙ ap (λ (r : Refusal). replyOf (Refused r) false false 0 0) (c .before .refused .ensures)
 
 pub no-state-spec : {M : Type 1} → statement M
 no-state-spec = tie.close (tie.spec (λ c κs. search needs) (λ c κs. search needs) returns)

@@ -13,14 +13,16 @@ next-after-requires c κs =
 -- what the code finds of full queues
 found : (c : tie.After-full-with)
     → c .full-with .result
-    ≡ full (c .before .before .before .before .before .before .args .self) (c .before .before .before .before .before .before .args .mask) (c .before .before .before .before .before .before .args .supplied) (c .before .before .before .before .before .before .args .cost)
-found c = full-is (c .before .before .before .before .before .before .args .self) _ _ _ _ (c .before .before .before .before .before .effect .ensures) _ (c .before .before .before .finished .ensures) _ _ (c .before .before .next-after .ensures) (c .full-with .ensures)
+    ≡ (let a = c .before .before .before .before .before .before .before .args in full (a .self) (a .mask) (a .supplied) (a .cost))
+found c =
+    full-is (c .before .before .before .before .before .before .before .args .self) _ _ _ _ (c .before .before .before .before .before .before .effect .ensures) _
+    (c .before .before .before .before .finished .ensures) _ _ _ (c .before .before .before .next-after .ensures) (c .before .outside .ensures) (c .full-with .ensures)
 
 returns : tie.Need-returns
 returns c = c .refuse .ensures ∙ admitted-full _ _ _ _ _ (found (c .before .before)) (c .before .if1 .taken)
 
 returns-2 : tie.Need-returns-2
-returns-2 c = c .before .before .before .before .before .before .effect .ensures ∙ admitted-free _ _ _ _ _ (found (c .before)) (c .if1 .left)
+returns-2 c = c .before .before .before .before .before .before .before .effect .ensures ∙ admitted-free _ _ _ _ _ (found (c .before)) (c .if1 .left)
 
 pub advance-spec : {M : Type 1} → statement M
 advance-spec =
@@ -29,6 +31,7 @@ advance-spec =
     (λ c κs. search needs)
     (λ c κs. search needs)
     next-after-requires
+    (λ c κs. search needs)
     (λ c κs. search needs)
     (λ c κs. search needs)
     returns

@@ -27,7 +27,7 @@ after-requires c κs = (
 )
 
 returns : tie.Need-returns
-returns c = c .after .ensures ∙ served-law (c .before .before .before .before .before .before .args .self) _ _ _ _ (c .before .before .before .turn .ensures) (c .before .before .instance .ensures) (c .before .step .ensures)
+returns c = c .after .ensures ∙ served-law (c .before .before .before .before .before .before .args .self) _ _ _ _ _ (c .before .before .before .turn .ensures) (c .before .before .instance .ensures) (c .before .step .ensures)
 
 pub serve-spec : {M : Type 1} → statement M
 serve-spec =
