@@ -1,25 +1,30 @@
 -- Beats that are folded, and arrivals that are kept. Assumes nothing.
 --   folds-not, folds-behind, folds-other   one beat, by its kind and by whether its callback runs
 --   Sifted, sifted, sifted-took, sifted-left, sifted-all   the slots of a mask that pass a test, looked at one after the other
---   kept-has, kept-in, kept-most           what is kept, as a mask; it is in the mask; nothing folded, nothing more is kept
+--   kept-has, kept-in, kept-most           what is kept, as a mask; it is in the mask; most where nothing is folded
+--   kept-few                               of a timer whose beat is kept no instance waits unstarted
 use mathlib.Core.Path.{_≡_, refl, sym, ap, _∙_}
 use mathlib.Core.Logic.{_≢_}
 use mathlib.Core.Bool.{Bool, true, false, not, _&&_, _||_}
+use mathlib.Core.List.{List}
 use Prim.Native.Nat.{ℕ, suc, _≤_, _<_}
 use native.Mathlib.Nat.{le-refl}
 use native.Mathlib.Decide.{ℕ-discrete}
 use native.Mathlib.Omega.{arith}
 use lib.Dec.{eqb, ltb}
-use borrow.Author.Tests.{eq-eqb, ne-eqb}
+use lib.ListN.{getD}
+use borrow.Author.Tests.{eq-eqb, ne-eqb, ltb-false}
 use Rattle.masks.specs.Mask.{has, withBit, withoutBit, gather}
 use Rattle.masks.specs.Parts.{except}
 use Rattle.masks.proofs.Slots.{has-zero, has-with-same, has-with-other, has-without-same, has-without-other, has-except, with-lt, without-le, mask-ext}
 use Rattle.masks.proofs.Gather.{gather-in, gather-lt}
 use Rattle.ranges.specs.Sum.{given, hit}
 use Rattle.ranges.proofs.SumLaws.{hit-self, hit-other}
-use Rattle.ranges.proofs.EveryLaws.{and-holds}
-use Rattle.numbers.specs.Numbers.{timer}
-use Rattle.folding.specs.Folding.{unstarted, kept}
+use Rattle.ranges.proofs.EveryLaws.{and-holds, flipped}
+use Rattle.numbers.specs.Numbers.{places, timer}
+use Rattle.table.specs.declared.Table.{Table}
+use Rattle.table.specs.Values.{kindOf}
+use Rattle.folding.specs.Folding.{unstarted, folds, foldedOf, kept}
 
 -- ---- one beat
 
@@ -108,3 +113,12 @@ kept-most mask folded i = rw (has-zero i) (go (has mask i) (has folded i))
     go true true = omega arith
     go true false = le-refl _
     go false b = le-refl _
+
+-- a timer whose beat is kept has no instance that waits unstarted
+pub kept-few : (t : Table) (ws : List ℕ) (running mask i : ℕ) → i < places → kindOf t i ≡ timer
+    → kept mask (foldedOf t ws running mask) i ≡ true → getD ws i 0 ≤ hit running i
+unfolding kept foldedOf unstarted
+kept-few t ws running mask i l timed e =
+    let a = and-holds (has mask i) (not (has (foldedOf t ws running mask) i)) e in
+    let not-folded = sym (gather-in (λ j. has mask j && folds t ws running j) places i l) ∙ flipped _ _ (a .1) in
+    ltb-false (hit running i) (getD ws i 0) (rw (a .0, eq-eqb (kindOf t i) timer timed) at not-folded)
