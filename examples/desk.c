@@ -5,8 +5,9 @@
  * TABLE holds the table's bytes, NAMES a name for each callback, a line each. HISTORY is text: the table's bytes in hex on the first
  * line, then one tick a line, MASK SUPPLIED COST, in decimal; empty lines and lines that begin with # say nothing.
  * Prints `window W` and a line `INDEX BOUND` for each callback, or `refused NUMBER INDEX`; then `start accepted` or
- * `start refused NUMBER INDEX`, and a line for each tick T: `T ANSWER CALLBACK INSTANCE STARTED POLLED GATHERED`, or
- * `T refused NUMBER INDEX`. What stands behind a # is the same in words: names, chains, the edition, the reason of a refusal.
+ * `start refused NUMBER INDEX`, and a line for each tick T: `T ANSWER CALLBACK INSTANCE STARTED POLLED GATHERED FOLDED`,
+ * or `T refused NUMBER INDEX`. What stands behind a # is the same in words: names, chains, the edition, the reason of a refusal, the timers whose
+ * beat was folded; and at the end, a line each, how many beats every such timer missed.
  * Ends with 0; with 1 where the table, the start or a tick was refused; with 2 where a file cannot be read or the output not be written. */
 #include "cuorfelt.h"
 #include "cuorfelt_text.h"
@@ -27,6 +28,9 @@ typedef struct {
 
 /* The name of callback i, empty where none is given. */
 static char names[CUORFELT_PLACES + 1][LONGEST_NAME];
+
+/* The beats that callback i missed. */
+static unsigned long missed[CUORFELT_PLACES + 1];
 
 /* The line that was read last, of names or of a history. */
 static char line[2 * LONGEST_FILE + 2];
@@ -176,6 +180,20 @@ static int spells(table of)
     return 1;
 }
 
+/* The timers whose beat a tick folded; each is a beat missed. */
+static void print_folded(cuorfelt_reply reply)
+{
+    const char *before = reply.callback ? "; folded: " : "folded: ";
+    for (int index = 1; index <= CUORFELT_PLACES; index++) {
+        if (!(reply.folded >> (index - 1) & 1))
+            continue;
+        missed[index]++;
+        printf("%s", before);
+        print_name(index);
+        before = ", ";
+    }
+}
+
 static void print_reply(unsigned long tick, cuorfelt_reply reply)
 {
     static const char *const answers[] = {"refused", "nosupply", "idle", "ran", "finished"};
@@ -185,12 +203,24 @@ static void print_reply(unsigned long tick, cuorfelt_reply reply)
         print_refusal(refusal);
         return;
     }
-    printf(" %d %lu %d %d %d", reply.callback, (unsigned long)reply.instance, reply.started, reply.polled, reply.gathered);
-    if (reply.callback) {
+    printf(" %d %lu %d %d %d %d", reply.callback, (unsigned long)reply.instance, reply.started, reply.polled, reply.gathered, reply.folded);
+    if (reply.callback || reply.folded)
         printf(" # ");
+    if (reply.callback)
         print_name(reply.callback);
-    }
+    print_folded(reply);
     printf("\n");
+}
+
+static void print_missed(void)
+{
+    for (int index = 1; index <= CUORFELT_PLACES; index++) {
+        if (!missed[index])
+            continue;
+        printf("# beats missed by ");
+        print_name(index);
+        printf(": %lu\n", missed[index]);
+    }
 }
 
 /* The desk's loop: each line is what arrived, whether the thread has the processor, and what a start would cost. */
@@ -228,6 +258,7 @@ static void run_history(const char *name, table of)
         printf("start accepted # edition %d: timers %s\n", of.bytes[0],
                of.bytes[0] == CUORFELT_EDITION_TWO ? "wait for a polling point" : "overtake");
         run_ticks(name, file, state, length);
+        print_missed();
     }
     free(state);
     close_read(name, file);

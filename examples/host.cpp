@@ -89,7 +89,7 @@ static bool print_reply(std::size_t tick, const cuorfelt_reply &reply)
     if (reply.number)
         std::cout << +reply.number << ' ' << +reply.index << '\n';
     else
-        std::cout << +reply.callback << ' ' << reply.instance << ' ' << +reply.started << ' ' << +reply.polled << ' ' << +reply.gathered << '\n';
+        std::cout << +reply.callback << ' ' << reply.instance << ' ' << +reply.started << ' ' << +reply.polled << ' ' << +reply.gathered << ' ' << reply.folded << '\n';
     return reply.number == 0;
 }
 

@@ -26,11 +26,11 @@ class Reply(ctypes.Structure):
     _fields_ = [("instance", ctypes.c_uint32)] + [
         (name, ctypes.c_uint8)
         for name in ("number", "index", "answer", "callback", "started", "polled", "gathered")
-    ]
+    ] + [("folded", ctypes.c_uint16)]
 
 
 def library():
-    cuorfelt = ctypes.CDLL("libcuorfelt.so.1")
+    cuorfelt = ctypes.CDLL("libcuorfelt.so.2")
     cuorfelt.cuorfelt_analyse.argtypes = [ctypes.c_char_p, ctypes.c_size_t, ctypes.POINTER(ctypes.c_uint16), ctypes.c_size_t]
     cuorfelt.cuorfelt_analyse.restype = Sheet
     cuorfelt.cuorfelt_start.argtypes = [ctypes.c_char_p, ctypes.c_size_t, BYTES, ctypes.c_size_t]
@@ -69,7 +69,7 @@ def reply_text(tick, r):
     if r.number:
         return f"{tick} refused {r.number} {r.index}"
     answer = ("refused", "nosupply", "idle", "ran", "finished")[r.answer]
-    return f"{tick} {answer} {r.callback} {r.instance} {r.started} {r.polled} {r.gathered}"
+    return f"{tick} {answer} {r.callback} {r.instance} {r.started} {r.polled} {r.gathered} {r.folded}"
 
 
 def replies(cuorfelt, table, ticks):

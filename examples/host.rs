@@ -34,6 +34,7 @@ struct Reply {
     started: u8,
     polled: u8,
     gathered: u8,
+    folded: u16,
 }
 
 #[link(name = "cuorfelt")]
@@ -92,8 +93,8 @@ fn reply_text(tick: usize, reply: &Reply) -> String {
     }
     let answer = ["refused", "nosupply", "idle", "ran", "finished"][usize::from(reply.answer)];
     format!(
-        "{tick} {answer} {} {} {} {} {}\n",
-        reply.callback, reply.instance, reply.started, reply.polled, reply.gathered
+        "{tick} {answer} {} {} {} {} {} {}\n",
+        reply.callback, reply.instance, reply.started, reply.polled, reply.gathered, reply.folded
     )
 }
 

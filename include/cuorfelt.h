@@ -24,8 +24,8 @@ extern "C" {
 
 /* The version of this header and of its library. A host is compiled anew where the first number differs; the second rises where
  * something is added, the third where neither is so. */
-#define CUORFELT_VERSION_MAJOR 1
-#define CUORFELT_VERSION_MINOR 4
+#define CUORFELT_VERSION_MAJOR 2
+#define CUORFELT_VERSION_MINOR 0
 #define CUORFELT_VERSION_PATCH 0
 
 /* Sizes. */
@@ -140,6 +140,8 @@ typedef struct {
     uint8_t started;    /* 1 where the instance named started in this tick, else 0 */
     uint8_t polled;     /* 1 where a polling point fell in this tick, else 0 */
     uint8_t gathered;   /* how many callbacks the poll put in the cache; 0 without one */
+    uint16_t folded;    /* the timers of the mask whose beat was folded, bit i - 1 for callback i: an instance of it waited that had not started.
+                         * Such a beat is missed: it is no activation, and nothing waits or runs for it. 0 where the tick was refused */
 } cuorfelt_reply;
 
 /* The length of a state in bytes, CUORFELT_STATE_LENGTH. */

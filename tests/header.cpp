@@ -2,10 +2,11 @@
 #include "cuorfelt.h"
 #include "cuorfelt_text.h"
 
+#include <cstddef>
 #include <cstdio>
 #include <vector>
 
-static_assert(sizeof(cuorfelt_refusal) == 2 && sizeof(cuorfelt_sheet) == 4 && sizeof(cuorfelt_reply) == 12, "as the library lays them out");
+static_assert(sizeof(cuorfelt_refusal) == 2 && sizeof(cuorfelt_sheet) == 4 && sizeof(cuorfelt_reply) == 16 && offsetof(cuorfelt_reply, folded) == 12, "as the library lays them out");
 static_assert(sizeof(cuorfelt_written) == 8 && sizeof(cuorfelt_callback) == CUORFELT_RECORD_NUMBERS * sizeof(uint16_t), "as the writer has them");
 static_assert(CUORFELT_LONGEST_TABLE == CUORFELT_HEADER_LENGTH + CUORFELT_RECORD_LENGTH * CUORFELT_PLACES, "a table of sixteen callbacks");
 

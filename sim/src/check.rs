@@ -69,6 +69,9 @@ pub struct Totals {
     pub longest_window: u64,
     pub histories: u64,
     pub ticks: u64,
+    /// Folded beats (U6), and the histories that have some.
+    pub folded: u64,
+    pub folding: u64,
     /// Bounds whose window fits the histories: those of the row, and for the same callbacks those of
     /// before U5, with which the same responses are compared.
     pub row: Nearness,
@@ -140,6 +143,10 @@ fn check_table(seed: u64, most_ticks: u64, totals: &mut Totals) {
 fn note(seed: u64, table: &Table, history: &History, judgement: &Judgement, totals: &mut Totals) {
     totals.histories += 1;
     totals.ticks += history.ticks.len() as u64;
+    let masks = history.replies.iter().map(|reply| reply.folded);
+    let folded: u64 = masks.map(|mask| u64::from(mask.count_ones())).sum();
+    totals.folded += folded;
+    totals.folding += u64::from(folded > 0);
     if let Some(departure) = judgement.departure {
         totals.outside.push(format!("seed {seed}: {departure:?}"));
     }
@@ -188,6 +195,8 @@ pub fn report(totals: &Totals) -> String {
         format!("longest window {}", totals.longest_window),
         format!("histories {}", totals.histories),
         format!("ticks {}", totals.ticks),
+        format!("folded beats {}", totals.folded),
+        format!("histories with folded beats {}", totals.folding),
         format!("bounds {}", totals.row.bounds),
         format!("reached exactly {}", totals.row.reached),
         format!("mean thousandths of the bound {}", totals.row.mean()),

@@ -3,9 +3,10 @@
 use crate::streams::input;
 use sim::check::{check, judged, report};
 use sim::frames::{cut_readings, cut_replies, framed, packed_history, readings, replies, writings};
+use sim::generate::beats::{some_of, timers};
 use sim::generate::damage::damaged;
-use sim::generate::edges::{base, edges, late};
-use sim::generate::histories::{covering, outside, span, starved, within, Style};
+use sim::generate::edges::{base, beating, edges, late};
+use sim::generate::histories::{covering, folding, outside, span, starved, within, Style};
 use sim::generate::states::{changes, sound, spoil};
 use sim::generate::tables::{any_shape, table, Shape};
 use sim::generate::worst::worst;
@@ -232,7 +233,7 @@ fn played_histories(bytes: &[u8]) -> Ending {
 fn generated(words: &[&str]) -> Result<Vec<u8>, Failure> {
     match words {
         ["generate", "readings"] => Ok(all_framed(&edges())),
-        ["generate", "histories"] => Ok([covered(1), covered(2), delayed()].concat()),
+        ["generate", "histories"] => Ok(vectors()),
         ["generate", "writings"] => Ok(all_framed(&write_edges())),
         ["generate", "tables", seed, count, rest @ ..] => Ok(tables(seed, count, rest)?.into()),
         ["generate", "history", seed, rest @ ..] => Ok(history(seed, rest)?.into()),
@@ -244,6 +245,11 @@ fn all_framed(contents: &[Vec<u8>]) -> Vec<u8> {
     contents.iter().flat_map(|bytes| framed(bytes)).collect()
 }
 
+/// The histories for `sim histories`.
+fn vectors() -> Vec<u8> {
+    [covered(1), covered(2), delayed(), beaten(1), beaten(2)].concat()
+}
+
 /// The history of this edition for `sim histories`.
 fn covered(edition: u8) -> Vec<u8> {
     packed_history(&encode(&base(edition)), &covering(edition))
@@ -252,6 +258,11 @@ fn covered(edition: u8) -> Vec<u8> {
 /// The history of a table with a delay for `sim histories`.
 fn delayed() -> Vec<u8> {
     packed_history(&encode(&late()), &starved())
+}
+
+/// The history of this edition with folded beats for `sim histories`.
+fn beaten(edition: u8) -> Vec<u8> {
+    packed_history(&encode(&beating(edition)), &folding())
 }
 
 fn tables(seed: &str, count: &str, rest: &[&str]) -> Result<String, Failure> {
@@ -328,16 +339,22 @@ fn pressing(random: &mut Random, sheet: &Sheet, length: u64, given: bool) -> Vec
     within(random, &sheet.table, &style, length).ticks
 }
 
-/// Writes a whole state before some ticks, every other one with a fault.
+/// Writes a whole state before some ticks, every other one with a fault. Behind such a state half of
+/// the timers beat, by draws of their own.
 fn disturbed(random: &mut Random, table: &Table, lines: Vec<Line>) -> Vec<Line> {
+    let mut aside = random.aside();
+    let timers = timers(table);
     let mut text = Vec::new();
-    for line in lines {
+    for mut line in lines {
         if random.chance(20) {
             let mut state = sound(random, table);
             if random.chance(50) {
                 spoil(random, table, &mut state);
             }
             text.extend(changes(&state).into_iter().map(Line::Set));
+            if let Line::Tick(tick) = &mut line {
+                tick.mask |= some_of(&mut aside, &timers, 50);
+            }
         }
         text.push(line);
     }

@@ -1,5 +1,6 @@
 //! Tables, damaged tables, values for the writer, states and histories, most of them from seeds.
 
+pub mod beats;
 pub mod blocking;
 pub mod damage;
 pub mod edges;

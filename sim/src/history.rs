@@ -1,5 +1,6 @@
 //! Activations, starts and completions in a history, the test that it is within the curves, and the
-//! conclusions of demand 3. Sections in quotes are document 01's, U2 is a request of document 02.
+//! conclusions of demand 3. Sections in quotes are document 01's, U2 and U6 are requests of document
+//! 02.
 
 use crate::machine::{bit, start, Answer, Reply, Tick};
 use crate::sheet::{arrivals, cost, delayed_supply};
@@ -47,16 +48,25 @@ fn finished(reply: &Reply) -> Option<usize> {
 }
 
 impl History {
+    /// U6: the mask of each tick without the beats that its reply calls folded. What is left of it
+    /// activates heads, and only that. A refused tick folds nothing, nor does one without a reply.
+    fn kept_masks(&self) -> impl Iterator<Item = u16> + '_ {
+        let folded = self.replies.iter().map(|reply| reply.folded);
+        let ticks = self.ticks.iter().zip(folded.chain(std::iter::repeat(0)));
+        ticks.map(|(tick, folded)| tick.mask & !folded)
+    }
+
     /// 'A history', activations: their times in ascending order, the k-th at place k - 1. A head
-    /// has one at t for its bit in tick t, a refused tick too; a follower has one at t + 1 where
-    /// tick t finishes the callback before it in the chain. Empty for an index that is not 1 to n.
+    /// has one at t for its bit in tick t, a refused tick too, but none for a folded beat; a
+    /// follower has one at t + 1 where tick t finishes the callback before it in the chain. Empty
+    /// for an index that is not 1 to n.
     pub fn activations(&self, table: &Table, index: usize) -> Vec<u64> {
         if index == 0 || index > table.count() {
             return Vec::new();
         }
         if table.is_head(index) {
-            let ticks = self.ticks.iter().zip(0..);
-            let set = ticks.filter(|(tick, _)| tick.mask & bit(index) != 0);
+            let masks = self.kept_masks().zip(0..);
+            let set = masks.filter(|(mask, _)| mask & bit(index) != 0);
             return set.map(|(_, time)| time).collect();
         }
         let names_it =
@@ -64,6 +74,13 @@ impl History {
         let replies = self.replies.iter().zip(1..);
         let activating = replies.filter(|(reply, _)| finished(reply).is_some_and(names_it));
         activating.map(|(_, time)| time).collect()
+    }
+
+    /// U6: the times of the folded beats of a callback, in ascending order.
+    pub fn folded(&self, index: usize) -> Vec<u64> {
+        let replies = self.replies.iter().zip(0..);
+        let folded = replies.filter(|(reply, _)| reply.folded & bit(index) != 0);
+        folded.map(|(_, time)| time).collect()
     }
 
     /// 'A history', starts: the time and the instance number of each tick that names the callback
@@ -156,8 +173,8 @@ fn first_departure(table: &Table, history: &History, search: Search) -> Result<(
     Ok(())
 }
 
-/// 'Curves', histories within them: all bits of a mask are heads', and every cost, used or not, is
-/// one of 1 to 60,000.
+/// 'Curves', histories within them: all bits of a mask, folded or not, are heads', and every cost,
+/// used or not, is one of 1 to 60,000.
 fn check_ticks(table: &Table, history: &History) -> Result<(), Departure> {
     let strangers = (1..=MOST_CALLBACKS).filter(|&i| !table.is_head(i));
     let strange = strangers.fold(0, |mask, i| mask | bit(i));
@@ -206,17 +223,16 @@ fn window_ending(values: &[u64], wrong: impl Fn(usize, u64) -> bool) -> Option<(
     None
 }
 
-/// 'Curves', arrivals: in a window of D ticks the head is activated a(D) times or less often.
+/// 'Curves', arrivals: in a window of D ticks the head is activated a(D) times or less often. Beats
+/// that were folded (U6) are free.
 fn check_arrivals(
     table: &Table,
     history: &History,
     head: usize,
     search: Search,
 ) -> Result<(), Departure> {
-    let ticks = history.ticks.iter();
-    let values: Vec<u64> = ticks
-        .map(|tick| u64::from(tick.mask & bit(head) != 0))
-        .collect();
+    let masks = history.kept_masks();
+    let values: Vec<u64> = masks.map(|mask| u64::from(mask & bit(head) != 0)).collect();
     let curve = table.callback(head);
     let tracked = || {
         let mut tracker = ArrivalTracker::new(curve);

@@ -1,6 +1,6 @@
 //! The machine: one tick at a time (refusals 18 to 21 and 29). Steps and sections in quotes are
-//! document 01's, U1 and U2 are requests of document 02. The start delay of U2 is no matter of the
-//! machine: it lies in the table, and only the reader looks at it.
+//! document 01's, U1, U2 and U6 are requests of document 02. The start delay of U2 is no matter of
+//! the machine: it lies in the table, and only the reader looks at it.
 
 use crate::table::{read, refusal, Kind, Refusal, Table, LARGEST, MOST_CALLBACKS};
 
@@ -43,13 +43,14 @@ pub enum Answer {
 
 /// 'One tick of the machine', answers: the answer or the refusal; then whether an instance started,
 /// whether this was a polling point, and the number of callbacks cached by the poll, 0 without a
-/// poll.
+/// poll. Last, for U6, the timers whose beats the tick folded, as a mask.
 #[derive(Clone, Copy, Debug, PartialEq, Eq)]
 pub struct Reply {
     pub outcome: Result<Answer, Refusal>,
     pub started: bool,
     pub polled: bool,
     pub gathered: u32,
+    pub folded: u16,
 }
 
 /// What a tick hands back.
@@ -143,8 +144,25 @@ impl State {
         self.cache & bit(index) != 0
     }
 
+    /// The instances of callback `index` that wait and have not started: an instance that runs is
+    /// counted among the waiting ones until it finishes. (0 for an index that is not 1 to 16)
+    pub fn unstarted(&self, index: usize) -> u64 {
+        let started = u64::from(self.running == index);
+        self.waiting(index).saturating_sub(started)
+    }
+
+    /// U6: the timers among the callbacks in the mask of which an instance waits unstarted when the
+    /// tick begins. What the tick itself starts or finishes comes behind its arrivals, so it makes
+    /// no difference.
+    fn folded(&self, table: &Table, mask: u16) -> u16 {
+        let beats = mask & kind_mask(table, Kind::Timer);
+        let behind = (1..=table.count()).filter(|&i| self.unstarted(i) > 0);
+        beats & behind.fold(0, |mask, i| mask | bit(i))
+    }
+
     /// 'One tick of the machine': the next state and the reply. Where the tick is refused, the
-    /// state is the one taken, nothing started, nothing was polled, and `gathered` is 0. Total.
+    /// state is the one taken, nothing started, nothing was polled, and `gathered` and `folded` are
+    /// 0. Total.
     pub fn tick(self, tick: Tick) -> Step {
         let stepped = self.checked(tick).and_then(|table| {
             let step = self.clone().advance(&table, tick);
@@ -158,6 +176,7 @@ impl State {
                 started: false,
                 polled: false,
                 gathered: 0,
+                folded: 0,
             },
         })
     }
@@ -220,14 +239,16 @@ impl State {
     }
 
     /// Refusal 21: the lowest callback that the tick activates, through the mask or as next of what
-    /// finishes in `reply`, though 255 of its instances wait when the tick begins.
+    /// finishes in `reply`, though 255 of its instances wait when the tick begins. A folded beat
+    /// activates nothing and needs no room; of a full timer at most one instance runs, so that its
+    /// beats are all folded, and it is never refused.
     fn check_room(&self, table: &Table, tick: Tick, reply: Reply) -> Result<(), Refusal> {
         let activated = match reply.outcome {
             Ok(Answer::Finished { callback, .. }) => bit(table.callback(callback).next),
             _ => 0,
         };
         for index in 1..=table.count() {
-            let gains = (tick.mask | activated) & bit(index) != 0;
+            let gains = (tick.mask & !reply.folded | activated) & bit(index) != 0;
             if gains && self.waiting(index) == MOST_WAITING {
                 return Err(refusal(21, index));
             }
@@ -238,13 +259,14 @@ impl State {
     /// The tick itself, steps 1 to 4; the state is without fault and the tick in range.
     fn advance(mut self, table: &Table, tick: Tick) -> Step {
         self.ticks += 1;
-        self.arrive(tick.mask);
         let mut reply = Reply {
             outcome: Ok(Answer::NoSupply),
             started: false,
             polled: false,
             gathered: 0,
+            folded: self.folded(table, tick.mask),
         };
+        self.arrive(tick.mask & !reply.folded);
         // Step 2: without supply nothing is chosen and no instance runs.
         if tick.supplied {
             if self.running == 0 {
@@ -255,7 +277,7 @@ impl State {
         Step { state: self, reply }
     }
 
-    /// Step 1: each callback in the mask has one more instance waiting.
+    /// Step 1: each callback in the mask has one more instance waiting. (folded beats are not in it)
     fn arrive(&mut self, mask: u16) {
         for index in 1..=MOST_CALLBACKS {
             if mask & bit(index) != 0 {

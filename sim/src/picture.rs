@@ -21,8 +21,8 @@ struct Drawing {
     shown: Range<usize>,
 }
 
-/// Rows by callback, with their names where given: arrivals, runs,
-/// completions and bounds, over unsupplied ticks and polling points.
+/// Rows by callback, with their names where given: arrivals, folded beats,
+/// runs, completions and bounds, over unsupplied ticks and polling points.
 pub fn svg(table: &Table, history: &History, names: &[&str]) -> String {
     svg_part(table, history, names, 0..history.ticks.len())
 }
@@ -47,6 +47,7 @@ pub fn svg_part(table: &Table, history: &History, names: &[&str], shown: Range<u
     for index in 1..=table.count() {
         drawing.row(index, table, names.get(index - 1).copied());
         drawing.activations(index, table, history);
+        drawing.folded(index, history);
         drawing.starts(index, history);
     }
     drawing.carried(history);
@@ -54,6 +55,7 @@ pub fn svg_part(table: &Table, history: &History, names: &[&str], shown: Range<u
         drawing.dues(table, history, &bounds(table, window));
     }
     drawing.legend();
+    drawing.folded_legend(history);
     drawing.text + "</svg>\n"
 }
 
@@ -264,6 +266,28 @@ impl Drawing {
         ));
     }
 
+    /// The folded beats of a timer. They release nothing: a cross where an arrival has its head, and
+    /// no stem, so that the two differ without colour too.
+    fn folded(&mut self, index: usize, history: &History) {
+        for time in history.folded(index) {
+            let time = time as usize;
+            if self.shown.contains(&time) {
+                self.folded_sign(self.x(time), self.base(index) - ROW + 6);
+            }
+        }
+    }
+
+    fn folded_sign(&mut self, x: usize, top: usize) {
+        let (left, right, low) = (x - 3, x + 3, top + 6);
+        self.put(format_args!(
+            concat!(
+                r#"<path d="M{0} {2}L{1} {3}M{0} {3}L{1} {2}" "#,
+                r##"fill="none" stroke="#222222" stroke-width="1.5"/>"##
+            ),
+            left, right, top, low
+        ));
+    }
+
     /// At the end of each chain: when the sheet has each instance completed.
     fn dues(&mut self, table: &Table, history: &History, bounds: &[u64]) {
         for index in (1..=table.count()).filter(|&i| table.callback(i).next == 0) {
@@ -379,6 +403,16 @@ impl Drawing {
         self.words((LEFT + 610, y), "start", "runs, but unsupplied");
         self.due_sign(LEFT + 746, y + 5);
         self.words((LEFT + 754, y), "start", "bound, at the end of a chain");
+    }
+
+    /// Below the rest of the legend, where a folded beat is shown.
+    fn folded_legend(&mut self, history: &History) {
+        if self.replies(history).any(|(_, reply)| reply.folded != 0) {
+            let y = self.bottom() + 66;
+            self.folded_sign(LEFT, y - 7);
+            let words = "beat of a timer, folded: an instance waits unstarted";
+            self.words((LEFT + 8, y), "start", words);
+        }
     }
 
     fn activation_sign(&mut self, x: usize, y: usize, colour: &str, words: &str) {

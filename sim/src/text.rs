@@ -278,15 +278,12 @@ pub fn reply_text(time: usize, reply: &Reply) -> String {
         Ok(Answer::Ran { callback, instance }) => ("ran", callback, instance),
         Ok(Answer::Finished { callback, instance }) => ("finished", callback, instance),
     };
-    let beside = (
-        u8::from(reply.started),
-        u8::from(reply.polled),
-        reply.gathered,
-    );
-    format!(
-        "{time} {word} {callback} {instance} {} {} {}",
-        beside.0, beside.1, beside.2
-    )
+    let started = u8::from(reply.started);
+    let polled = u8::from(reply.polled);
+    let Reply {
+        gathered, folded, ..
+    } = reply;
+    format!("{time} {word} {callback} {instance} {started} {polled} {gathered} {folded}")
 }
 
 fn joined(values: &[u64]) -> String {

@@ -71,6 +71,7 @@ fn costing(costs: &[u64]) -> History {
         started: true,
         polled: false,
         gathered: 0,
+        folded: 0,
     };
     History {
         ticks: costs.iter().map(|&cost| tick(0, cost)).collect(),

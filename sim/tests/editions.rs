@@ -24,6 +24,7 @@ fn reply(answer: Answer, started: bool, polled: bool, gathered: u32) -> Reply {
         started,
         polled,
         gathered,
+        folded: 0,
     }
 }
 
@@ -360,5 +361,6 @@ fn packed_histories_of_both_editions() {
     });
     assert!(packed.stdout.starts_with(&each.concat()));
     let text = replies(&each[1]);
-    assert!(!text.starts_with("refused") && text.contains("refused 21 1\n"));
+    assert!(!text.starts_with("refused") && text.contains("refused 21 3\n"));
+    assert!(!text.contains("refused 21 1\n"));
 }

@@ -2,6 +2,7 @@
 
 mod common;
 use common::*;
+use sim::generate::beats::timers;
 use sim::generate::histories::{span, within, Style};
 use sim::generate::tables::{table, Shape};
 use sim::generate::worst::{tries, worst};
@@ -39,16 +40,15 @@ fn plain(script: &Script) -> History {
 /// What seeds gave before the trackers, before edition 2 and before delays, as digests of what they
 /// draw for tables of edition 1 without a delay. Drawn tables stay but for edition and delay;
 /// without these they are compared. Where U5 changes bounds, the worst history and the checks are
-/// others, so that of these only those of tables without timers are compared.
+/// others, and with U6 timers beat more often in all histories, so that of these only those of tables
+/// without timers are compared.
 #[test]
 fn seeds_give_what_they_gave() {
-    let drawn = |sort: &str| histories_of_seeds(1..=90, sort, "300");
-    assert_eq!(digest(drawn("within")), WITHIN);
-    assert_eq!(digest(drawn("outside")), OUTSIDE);
-    let worst = histories_of_seeds(1..=200, "worst", "40").into_iter();
-    let plain =
-        worst.filter(|text| !with_timers_first(&read(&script(text).unwrap().table).unwrap()));
-    assert_eq!(digest(plain), WORST);
+    let drawn = |sort: &str| digest(without_timers(histories_of_seeds(1..=200, sort, "300")));
+    assert_eq!(drawn("within"), WITHIN);
+    assert_eq!(drawn("outside"), OUTSIDE);
+    let worst = without_timers(histories_of_seeds(1..=200, "worst", "40"));
+    assert_eq!(digest(worst), WORST);
     let tables = |sort: &str| {
         let text = program(&["generate", "tables", "1", "300", sort], b"");
         digest(text.lines().map(without_edition_and_delay))
@@ -60,15 +60,23 @@ fn seeds_give_what_they_gave() {
     assert_eq!(digest(first.map(|text| as_before(&text))), CHECK);
 }
 
-/// What a check printed before U5 and its lines, without those about edition and delay.
+/// Those whose table has no timer.
+fn without_timers(texts: Vec<String>) -> impl Iterator<Item = String> {
+    let timers = |text: &String| timers(&read(&script(text).unwrap().table).unwrap());
+    let texts = texts.into_iter();
+    texts.filter(move |text| timers(text).is_empty())
+}
+
+/// What a check printed before U5 and its lines, without those about edition, delay and folded beats.
 fn as_before(check: &str) -> String {
     let check = check.replace(NEITHER, "");
-    let lines = check.lines().filter(|line| !line.contains("U5"));
+    let added = |line: &str| line.contains("U5") || line.contains("folded");
+    let lines = check.lines().filter(|line| !added(line));
     lines.map(|line| line.to_string() + "\n").collect()
 }
 
-const WITHIN: u64 = 0x9d64_4400_caa4_a586;
-const OUTSIDE: u64 = 0xb8d7_9f8b_7fb6_4ae9;
+const WITHIN: u64 = 0x5a10_e3cb_b2a3_8cde;
+const OUTSIDE: u64 = 0x1fc2_bcd8_d987_dcce;
 const WORST: u64 = 0x2304_aaf9_c407_64fa;
 const TABLES: [u64; 3] = [
     0xa374_5eb6_8589_f093,
@@ -94,7 +102,7 @@ fn without_edition_and_delay(line: &str) -> String {
     format!("{}{}\n", &line[2..16], &line[20..])
 }
 
-/// What seeds give since U5 for tables of edition 1 with timers.
+/// What seeds give since U6 for tables of edition 1 with timers.
 #[test]
 fn seeds_give_what_they_give_for_timers() {
     let worst = histories_of_seeds(1..=60, "worst", "40").into_iter();
@@ -106,10 +114,11 @@ fn seeds_give_what_they_give_for_timers() {
     assert_eq!(digest(checks), TIMED_CHECK);
 }
 
-const TIMED_WORST: u64 = 0xffd1_e3cb_644d_0039;
-const TIMED_CHECK: u64 = 0xc042_48bf_70ff_b287;
+const TIMED_WORST: u64 = 0xb755_9d48_256b_b492;
+const TIMED_CHECK: u64 = 0x3655_ac5d_fc9d_2fbe;
 
 /// What seeds give since U2, damaged tables among it: these have one number more to be refused with.
+/// The faulty histories are those since U6, with other timers in their states and more beats.
 #[test]
 fn seeds_give_what_they_give() {
     let faulty = (1..=30).map(|seed: u64| {
@@ -121,7 +130,7 @@ fn seeds_give_what_they_give() {
     assert_eq!(digest([tables]), ANY_TABLES);
 }
 
-const FAULTY: u64 = 0x7368_bb56_09e2_26ce;
+const FAULTY: u64 = 0xd25d_9991_4710_6823;
 const ANY_TABLES: u64 = 0x420a_e43b_2e42_2f68;
 
 #[test]

@@ -28,6 +28,7 @@ fn refused(state: &State, tick: Tick) -> Option<Refusal> {
     if refusal.is_some() {
         assert_eq!(&step.state, state);
         assert!(!step.reply.started && !step.reply.polled && step.reply.gathered == 0);
+        assert_eq!(step.reply.folded, 0);
     }
     refusal
 }
@@ -299,26 +300,35 @@ fn refusals_18_to_20_in_order() {
     assert_eq!(refused(&state, tick(9, 1)), Some(refusal(20, 4)));
 }
 
+/// U6: a full timer is not refused, nor does it keep others from being refused.
 #[test]
 fn refusal_21_for_heads() {
-    let table = full(vec![subscription(9, &[1]), timer(9, &[1])]);
-    for (edition, cache) in [(1, 0), (2, 2)] {
+    let table = full(vec![
+        subscription(9, &[1]),
+        timer(9, &[1]),
+        lone(Kind::Service, 9, 0, 9, &[1]),
+    ]);
+    for (edition, cache) in [(1, 4), (2, 6)] {
         let mut state = fresh(&in_edition(edition, &table));
-        state.waiting[..2].copy_from_slice(&[255, 254]);
-        assert_eq!(refused(&state, tick(2, 1)), None);
-        assert_eq!(refused(&state, tick(3, 1)), Some(refusal(21, 1)));
+        state.waiting[..3].copy_from_slice(&[255, 254, 254]);
+        assert_eq!(refused(&state, tick(6, 1)), None);
+        assert_eq!(refused(&state, tick(7, 1)), Some(refusal(21, 1)));
         assert_eq!(refused(&state, unsupplied(1, 1)), Some(refusal(21, 1)));
-        state.waiting[1] = 255;
-        assert_eq!(refused(&state, tick(2, 1)), Some(refusal(21, 2)));
-        (state.cache, state.running) = (cache, 2);
-        state.units = 1;
-        assert_eq!(refused(&state, tick(2, 1)), Some(refusal(21, 2)));
-        assert_eq!(refused(&state, tick(0, 1)), None);
+        state.waiting[1..3].copy_from_slice(&[255, 255]);
+        assert_eq!(refused(&state, tick(2, 1)), None);
+        assert_eq!(refused(&state, tick(6, 1)), Some(refusal(21, 3)));
+        for running in [2, 3] {
+            (state.cache, state.running, state.units) = (cache, running, 1);
+            assert_eq!(refused(&state, tick(2, 1)), None);
+            assert_eq!(refused(&state, tick(4, 1)), Some(refusal(21, 3)));
+            assert_eq!(refused(&state, tick(6, 1)), Some(refusal(21, 3)));
+            assert_eq!(refused(&state, tick(0, 1)), None);
+        }
     }
 }
 
 /// Refusal 21 of a follower with 255 waiting: only in a tick that would finish
-/// the callback before it.
+/// the callback before it. A full timer beside it folds its beat (U6).
 #[test]
 fn refusal_21_for_followers() {
     let mut table = full(vec![
@@ -335,11 +345,12 @@ fn refusal_21_for_followers() {
         assert_eq!(refused(&state, unsupplied(2, 1)), None);
         state.waiting[2] = 255;
         assert_eq!(refused(&state, tick(6, 1)), Some(refusal(21, 1)));
-        assert_eq!(refused(&state, tick(6, 2)), Some(refusal(21, 3)));
+        assert_eq!(refused(&state, tick(6, 2)), None);
         state.waiting[0] = 254;
-        state.waiting[2] = 254;
         assert_eq!(refused(&state, tick(6, 1)), None);
-        assert_eq!(state.tick(tick(6, 1)).state.waiting[..3], [255, 0, 255]);
+        let step = state.tick(tick(6, 1));
+        assert_eq!(step.state.waiting[..3], [255, 0, 255]);
+        assert_eq!(step.reply.folded, 4);
     }
 }
 

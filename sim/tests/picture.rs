@@ -94,6 +94,32 @@ fn whole_pictures_are_what_they_were() {
 
 const PICTURES: u64 = 0x93bf_817f_7a4b_2232;
 
+/// Histories of tables with timers in which no beat is folded have the pictures of before U6: a digest
+/// of those of P6's callbacks and of the chain, in both editions, with and without a delay.
+#[test]
+fn pictures_without_folded_beats_are_what_they_were() {
+    let pair = full(vec![timer(10, &[2]), subscription(20, &[3])]);
+    let mut pictures = Vec::new();
+    for (table, every) in [(pair, 10), (chain(), 20)] {
+        for (edition, delay) in [(1, 0), (2, 0), (1, 3), (2, 3)] {
+            let table = in_edition(edition, &delayed(delay, &table));
+            let line = |time: usize| match time % every {
+                0 => "1 1 2\n",
+                1 if table.is_head(2) && time % 20 == 1 => "2 1 3\n",
+                7 => "0 0 1\n",
+                _ => "0 1 3\n",
+            };
+            let text = hex(&encode(&table)) + "\n" + &(0..45).map(line).collect::<String>();
+            assert!(!program(&["replay"], text.as_bytes()).contains("refused"));
+            pictures.push(program(&["svg", "a"], text.as_bytes()));
+        }
+    }
+    assert!(pictures.iter().all(|picture| !picture.contains("folded")));
+    assert_eq!(digest(pictures), UNFOLDED);
+}
+
+const UNFOLDED: u64 = 0x13c2_f54a_eec3_e9df;
+
 /// A table without timers has the same picture in both editions, but for the words that say which.
 #[test]
 fn edition_2_is_told() {

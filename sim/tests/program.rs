@@ -63,10 +63,10 @@ fn status_of_sheets() {
 #[test]
 fn status_of_replays() {
     let text = history(&pair(), "1 1 1\n");
-    let expected = "start accepted\n0 finished 1 1 1 1 1\n";
+    let expected = "start accepted\n0 finished 1 1 1 1 1 0\n";
     says(&["replay"], text.as_bytes(), 0, expected);
     let refused = text.clone() + "4 1 1\n0 0 1\n";
-    let expected = expected.to_string() + "1 refused 20 3\n2 nosupply 0 0 0 0 0\n";
+    let expected = expected.to_string() + "1 refused 20 3\n2 nosupply 0 0 0 0 0 0\n";
     says(&["replay"], refused.as_bytes(), 1, &expected);
     says(&["replay"], b"", 1, "start refused 1 0\n");
     assert_eq!(run(&["replay", "states"], text.as_bytes()).status, Some(0));
@@ -139,7 +139,7 @@ fn status_of_frames() {
     says(&["readings"], &refused, 1, "1 0\n0 0\n0 0\n");
     let ticks = [(tick(1, 1), 1)];
     let input = packed_history(&bytes, &ticks);
-    says(&["histories"], &input, 0, "0 4 1 1 1 1 1\n");
+    says(&["histories"], &input, 0, "0 4 1 1 1 1 1 0\n");
     let input = packed_history(&bytes, &[(tick(4, 1), 1)]);
     says(&["histories"], &input, 1, "0 refused 20 3\n");
     let input = packed_history(&[], &ticks);
@@ -149,7 +149,12 @@ fn status_of_frames() {
         packed_history(&bytes, &ticks),
     ]
     .concat();
-    says(&["histories"], &two, 0, "0 4 1 1 1 1 1\n0 4 1 1 1 1 1\n");
+    says(
+        &["histories"],
+        &two,
+        0,
+        "0 4 1 1 1 1 1 0\n0 4 1 1 1 1 1 0\n",
+    );
     says(&["histories"], b"", 0, "");
 }
 
@@ -166,7 +171,7 @@ fn frames_cut_short() {
         (
             "histories",
             &history[..history.len() - 1],
-            "0 4 1 1 1 1 1\n",
+            "0 4 1 1 1 1 1 0\n",
             "history 1, tick 1",
         ),
         ("histories", &history[..20], "", "history 1"),

@@ -28,8 +28,8 @@ fn replay_of_p10() {
     let table = full(vec![subscription(10, &[2]); 3]);
     let text =
         hex(&encode(&table)) + "\n6 1 2\n1 1 2\n# a remark\n\n0 0 2\n8 1 2\nset units 9\n0 1 2\n";
-    let expected = "start accepted\n0 ran 2 1 1 1 2\n1 finished 2 1 0 0 0\n2 nosupply 0 0 0 0 0\n\
-                    3 refused 20 4\n4 refused 29 0\n";
+    let expected = "start accepted\n0 ran 2 1 1 1 2 0\n1 finished 2 1 0 0 0 0\n\
+                    2 nosupply 0 0 0 0 0 0\n3 refused 20 4\n4 refused 29 0\n";
     assert_eq!(program(&["replay"], text.as_bytes()), expected);
     assert_eq!(
         program(&["replay"], b"\n1 1 1\n"),
@@ -41,7 +41,7 @@ fn replay_of_p10() {
 fn replay_with_states() {
     let text = hex(&encode(&chain())) + "\n1 1 2\n";
     let zeros = " 0".repeat(15);
-    let expected = format!("start accepted\n0 ran 1 1 1 0 0\nstate 1 1 1 0 1{zeros} 0{zeros}\n");
+    let expected = format!("start accepted\n0 ran 1 1 1 0 0 0\nstate 1 1 1 0 1{zeros} 0{zeros}\n");
     assert_eq!(program(&["replay", "states"], text.as_bytes()), expected);
 }
 
@@ -112,7 +112,7 @@ fn binary_input() {
     let history = packed_history(&bytes, &[(tick(6, 2), 1), (tick(1, 65_537), 255)]);
     assert_eq!(
         program(&["histories"], &history),
-        "0 3 2 1 1 1 2\n1 refused 19 0\n"
+        "0 3 2 1 1 1 2 0\n1 refused 19 0\n"
     );
 }
 
@@ -173,49 +173,66 @@ fn second_history(ticks: Range<usize>) -> Vec<String> {
     lines.take(ticks.end).skip(ticks.start).collect()
 }
 
-/// The history of edition 2 from its first poll to idleness, reckoned by hand from step 3 and U1.
-/// Timer 1 activates subscription 2; service 4 goes before client 3.
+/// The history of edition 2 from its first poll to idleness, reckoned by hand from step 3, U1 and
+/// U6. Timer 1 activates subscription 2; service 4 goes before client 3. Of the beats in ticks 30, 32
+/// and 35 the first is kept and waits for the poll in tick 36, so that the others are folded.
 #[test]
 fn history_of_edition_2() {
     let polls = [
-        "27 4 1 1 1 1 1",
-        "28 3 1 2 1 1 4",
-        "29 4 1 2 0 0 0",
-        "30 1 0 0 0 0 0",
-        "31 3 2 1 1 0 0",
-        "32 3 2 1 0 0 0",
-        "33 4 2 1 0 0 0",
-        "34 4 4 1 1 0 0",
-        "35 4 3 1 1 0 0",
-        "36 4 1 3 1 1 2",
-        "37 4 2 2 1 0 0",
-        "38 4 1 4 1 1 2",
-        "39 4 2 3 1 0 0",
-        "40 4 1 5 1 1 2",
-        "41 4 2 4 1 0 0",
-        "42 4 2 5 1 1 1",
-        "43 2 0 0 0 1 0",
+        "27 4 1 1 1 1 1 0",
+        "28 3 1 2 1 1 4 0",
+        "29 4 1 2 0 0 0 0",
+        "30 1 0 0 0 0 0 0",
+        "31 3 2 1 1 0 0 0",
+        "32 3 2 1 0 0 0 1",
+        "33 4 2 1 0 0 0 0",
+        "34 4 4 1 1 0 0 0",
+        "35 4 3 1 1 0 0 1",
+        "36 4 1 3 1 1 2 0",
+        "37 4 2 2 1 0 0 0",
+        "38 4 2 3 1 1 1 0",
+        "39 2 0 0 0 1 0 0",
     ];
-    assert_eq!(second_history(27..44), polls);
+    assert_eq!(second_history(27..40), polls);
 }
 
-/// From tick 302 on 255 beats have room; one more, and two in supplied ticks, have not. Then the
-/// timer runs once a poll.
+/// From tick 302 on the timer beats without supply: one beat is kept. Two ticks are refused for the
+/// full client. Then the timer runs once a poll, and folds a beat wherever one waits for that.
 #[test]
-fn full_timer_of_edition_2() {
-    let full = [
-        "556 1 0 0 0 0 0",
-        "557 refused 21 1",
-        "558 refused 21 1",
-        "559 refused 21 1",
-        "560 4 1 6 1 1 2",
-        "561 4 3 2 1 0 0",
-        "562 refused 21 1",
-        "563 4 1 7 1 1 3",
-        "564 4 2 6 1 0 0",
-        "565 refused 21 1",
-        "566 4 3 3 1 0 0",
-        "567 refused 21 1",
+fn folded_beats_of_edition_2() {
+    let beats = [
+        "299 1 0 0 0 0 0 0",
+        "300 refused 21 3",
+        "301 refused 21 3",
+        "302 1 0 0 0 0 0 0",
+        "303 1 0 0 0 0 0 1",
+        "304 1 0 0 0 0 0 1",
+        "305 refused 21 3",
+        "306 refused 21 3",
+        "307 4 1 4 1 1 2 1",
+        "308 4 3 2 1 0 0 0",
+        "309 4 1 5 1 1 3 0",
+        "310 4 2 4 1 0 0 0",
+        "311 4 3 3 1 0 0 0",
+        "312 4 1 6 1 1 3 1",
+        "313 4 2 5 1 0 0 0",
     ];
-    assert_eq!(second_history(556..568), full);
+    assert_eq!(second_history(299..314), beats);
+}
+
+/// The end of the history of edition 1: the timer runs, keeps one of 256 beats without supply, and is
+/// never refused itself. Then its full follower is refused.
+#[test]
+fn folded_beats_of_edition_1() {
+    let text = replies(&packed_history(&encode(&base(1)), &covering(1)));
+    let lines: Vec<&str> = text.lines().skip(554).collect();
+    let folded = (557..812).map(|time| format!("{time} 1 0 0 0 0 0 1"));
+    let refused = (812..817).map(|time| format!("{time} refused 21 2"));
+    let begun = [
+        "554 refused 21 2",
+        "555 3 1 257 1 0 0 0",
+        "556 1 0 0 0 0 0 0",
+    ];
+    let expected = begun.map(str::to_string).into_iter();
+    assert!(lines.into_iter().eq(expected.chain(folded).chain(refused)));
 }

@@ -123,6 +123,19 @@ fn refused(machine: &Machine, mask: u16, cost: u32) -> Option<Refusal> {
     None
 }
 
+/// The timers of a mask of which an instance waits that has not started.
+fn folded(machine: &Machine, mask: u16) -> u16 {
+    let mut folded = 0;
+    let mut left = mask & machine.table.kinds[usize::from(TIMER) - 1];
+    while left != 0 {
+        let slot = left.trailing_zeros() as usize;
+        let runs = u16::from(usize::from(machine.running) == slot + 1);
+        folded |= u16::from(machine.waiting[slot] > runs) << slot;
+        left &= left - 1;
+    }
+    folded
+}
+
 /// The slots, of those that a tick activates, that are full already.
 fn full(machine: &Machine, activated: u16) -> u16 {
     let mut full = 0;
@@ -223,12 +236,14 @@ pub fn tick(bytes: &mut [u8], mask: u16, supplied: u8, cost: u32) -> Reply {
     }
     let mut reply = Reply {
         answer: 1,
+        folded: folded(&machine, mask),
         ..Reply::default()
     };
-    let mut activated = mask;
+    let kept = mask & !reply.folded;
+    let mut activated = kept;
     if supplied != 0 {
         if machine.running == 0 {
-            choose(&mut machine, mask, cost, &mut reply);
+            choose(&mut machine, kept, cost, &mut reply);
         }
         activated |= run(&mut machine, &mut reply);
     }

@@ -57,6 +57,19 @@ pub fn late() -> Table {
     }
 }
 
+/// Four timers, the first with a follower, and a service between them. In this edition.
+pub fn beating(edition: u8) -> Table {
+    let timer = lone(Kind::Timer, &[3, 5]);
+    let mut callbacks = vec![timer; 6];
+    callbacks[1] = base(edition).callbacks[1].clone();
+    callbacks[3] = lone(Kind::Service, &[2]);
+    callbacks[0].next = 2;
+    Table {
+        edition,
+        ..full(callbacks)
+    }
+}
+
 fn with_byte(bytes: &[u8], at: usize, value: u8) -> Vec<u8> {
     let mut other = bytes.to_vec();
     other[at] = value;

@@ -1,5 +1,6 @@
 //! Histories within the curves that press against them, and others.
 
+use super::beats::{self, falls_behind, some_of, Beats};
 use super::blocking::{timers, Blocking, Stage};
 use crate::history::{named, History};
 use crate::machine::{bit, start, State, Tick};
@@ -193,6 +194,8 @@ pub fn span(window: u64, length: u64) -> u64 {
 /// A history in the making, with what the curves still permit.
 struct Driver<'a> {
     heads: Vec<usize>,
+    timers: Vec<usize>,
+    beats: Beats,
     state: State,
     history: History,
     supply: SupplyTracker,
@@ -203,10 +206,26 @@ struct Driver<'a> {
     stage: Stage,
 }
 
-/// A history within the curves, of `length` ticks.
+/// A history within the curves, of `length` ticks, with beats that are folded.
 pub fn within(random: &mut Random, table: &Table, style: &Style, length: u64) -> History {
+    let beats = Beats::any(&mut random.aside());
+    within_beating(random, table, style, length, beats)
+}
+
+/// The same with timers that beat as said.
+pub fn within_beating(
+    random: &mut Random,
+    table: &Table,
+    style: &Style,
+    length: u64,
+    beats: Beats,
+) -> History {
+    // Surplus beats have draws of their own, as they change nothing else.
+    let mut aside = random.aside();
     let mut driver = Driver {
         heads: (1..=table.count()).filter(|&i| table.is_head(i)).collect(),
+        timers: beats::timers(table),
+        beats,
         state: start(&encode(table)).state,
         history: History::default(),
         supply: SupplyTracker::new(table),
@@ -216,7 +235,7 @@ pub fn within(random: &mut Random, table: &Table, style: &Style, length: u64) ->
     };
     for time in 0..length {
         driver.advance(style, time);
-        let mask = driver.mask(random, style, time);
+        let mask = driver.mask(random, style, time) | driver.surplus(&mut aside);
         let starves = style.starves(time) && driver.stage.presses();
         let starved = starves && driver.supply.may_starve() && random.chance(style.starve);
         driver.take(random, style, mask, !starved);
@@ -246,7 +265,21 @@ impl Driver<'_> {
         blocking.is_none_or(|blocking| blocking.lets(self.stage, head, self.idle()))
     }
 
-    /// The arrivals of this tick.
+    /// Whether an arrival of this head in this tick is an activation that its curve has to permit.
+    /// A clock that takes no note counts its folded beats too.
+    fn counts(&self, head: usize) -> bool {
+        let folded = self.timers.contains(&head) && falls_behind(&self.state, head);
+        !(folded && self.beats.eager)
+    }
+
+    /// Beats of timers that fall behind, which no curve has to permit.
+    fn surplus(&self, random: &mut Random) -> u16 {
+        let behind = self.timers.iter().copied();
+        let behind: Vec<usize> = behind.filter(|&i| falls_behind(&self.state, i)).collect();
+        some_of(random, &behind, self.beats.surplus)
+    }
+
+    /// The arrivals of this tick that the curves permit.
     fn mask(&mut self, random: &mut Random, style: &Style, time: u64) -> u16 {
         let mut mask = 0;
         if !style.arrives(time) {
@@ -254,10 +287,13 @@ impl Driver<'_> {
         }
         for &head in &self.heads {
             let due = time >= style.phases[head - 1] && self.lets(style, head);
+            let counts = self.counts(head);
             let tracker = &mut self.arrivals[head - 1];
             if due && tracker.permits(time) && random.chance(style.arrive) {
                 mask |= bit(head);
-                tracker.activate(time);
+                if counts {
+                    tracker.activate(time);
+                }
             }
         }
         mask
@@ -311,6 +347,9 @@ pub fn outside(random: &mut Random, table: &Table, length: u64) -> Vec<Tick> {
         .filter(|_| random.chance(70))
         .collect();
     let flooded = if some.is_empty() { heads } else { some };
+    // Timers, flooded or not, beat beside that in two histories of three, by draws of their own.
+    let mut aside = random.aside();
+    let (timers, beating) = (beats::timers(table), *aside.pick(&[0, 40, 100]));
     let mut ticks = Vec::new();
     for _ in 0..length {
         let mut tick = Tick {
@@ -325,6 +364,7 @@ pub fn outside(random: &mut Random, table: &Table, length: u64) -> Vec<Tick> {
         if random.chance(fault) {
             spoil(random, &mut tick);
         }
+        tick.mask |= some_of(&mut aside, &timers, beating);
         ticks.push(tick);
     }
     ticks
@@ -385,6 +425,54 @@ pub fn starved() -> Vec<(Tick, u8)> {
     offers
 }
 
+/// A history of the table of six callbacks in `edges`, in which beats are kept and folded (U6): one
+/// timer alone, then all of them with service 4 beside them. It suits both editions.
+pub fn folding() -> Vec<(Tick, u8)> {
+    let mut offers = Vec::new();
+    one_timer(&mut offers);
+    all_timers(&mut offers);
+    offers
+}
+
+/// Timer 3, bit 4, at each moment that a beat can meet.
+fn one_timer(offers: &mut Vec<(Tick, u8)>) {
+    // Without supply the first beat is kept, the next one folded.
+    offers.extend([offer(4, 0, 1), offer(4, 0, 1)]);
+    // Two refused ticks fold nothing, nor does one without a beat.
+    offers.extend([offer(4, 0, 0), offer(6, 1, 1), offer(0, 0, 1)]);
+    // The waiting instance starts in the tick of a beat: folded.
+    offers.push(offer(4, 1, 3));
+    // Only the running one is there: kept. Then one is behind it: folded, with and without supply.
+    offers.extend([offer(4, 1, 1), offer(4, 0, 1)]);
+    // The running one finishes, with one behind it: folded. That one starts and finishes at once:
+    // folded again. Then none waits: kept, and started in the same tick.
+    offers.extend([offer(4, 1, 1), offer(4, 1, 1), offer(4, 1, 2)]);
+    // The running one finishes, with none behind it: kept.
+    offers.extend([offer(4, 1, 1), offer(0, 0, 1)]);
+    offers.extend([offer(0, 1, 1); 2]);
+}
+
+/// Timers 1, 3, 5 and 6, bits 1, 4, 16 and 32, and service 4, bit 8, which is never folded.
+fn all_timers(offers: &mut Vec<(Tick, u8)>) {
+    // Three timers wait. Then all beat: three are folded, 6 is kept and the service queues.
+    offers.extend([offer(29, 0, 1), offer(61, 0, 1)]);
+    // Timer 1 starts, and keeps a beat while it runs; in the tick in which it finishes all are folded.
+    offers.extend([offer(52, 1, 3), offer(61, 1, 1), offer(53, 1, 1)]);
+    // All beat on. In edition 1 timer 1 goes first again and again; in edition 2 all have a turn, and
+    // each keeps the first beat behind its start.
+    offers.extend([offer(53, 1, 1); 7]);
+    offers.extend([offer(53, 1, 2), offer(53, 0, 1), offer(53, 1, 1)]);
+    // Down to idleness.
+    offers.extend([offer(0, 1, 1); 19]);
+    // Behind a running service timer 5 keeps a beat and then 6 does; all others are folded, also when
+    // the service finishes.
+    offers.extend([offer(8, 1, 4), offer(16, 1, 1), offer(48, 0, 1)]);
+    offers.extend([offer(56, 1, 1), offer(48, 1, 1)]);
+    // Timer 5 starts, and 6 is folded beside what it keeps; then again 5, or the cached 6.
+    offers.extend([offer(0, 1, 2), offer(48, 1, 1), offer(48, 1, 1)]);
+    offers.extend([offer(0, 1, 1); 5]);
+}
+
 /// Edition 1: a timer that keeps all others waiting, a full head and a full follower.
 fn timers_first(offers: &mut Vec<(Tick, u8)>) {
     // All heads at once, run to idleness.
@@ -395,7 +483,8 @@ fn timers_first(offers: &mut Vec<(Tick, u8)>) {
     offers.push(offer(12, 1, 1));
     // Timer 1 beats in every tick, so that its follower 2 fills up.
     offers.extend([offer(1, 1, 1); 256]);
-    // With cost 2 nothing finishes, and nothing is activated; then the timer fills up too.
+    // With cost 2 nothing finishes, and nothing is activated; then the timer keeps one beat and folds
+    // all others, so that it never fills up.
     offers.push(offer(1, 1, 2));
     offers.extend([offer(1, 0, 1); 256]);
     offers.push(offer(5, 1, 1));
@@ -403,7 +492,7 @@ fn timers_first(offers: &mut Vec<(Tick, u8)>) {
     offers.extend([offer(0, 1, 1); 4]);
 }
 
-/// Edition 2: a timer that waits behind the cache, a poll of all four, full heads. (a follower does
+/// Edition 2: a timer that waits behind the cache, a poll of all four, a full head. (a follower does
 /// not fill up: a poll takes its head and, from the next one on, the follower)
 fn timers_polled(offers: &mut Vec<(Tick, u8)>) {
     // A poll of timer 1 alone, whose follower 2 is in the next poll, with all four.
@@ -414,12 +503,14 @@ fn timers_polled(offers: &mut Vec<(Tick, u8)>) {
     offers.extend([offer(0, 1, 1), offer(0, 1, 1), offer(1, 1, 1)]);
     // The next polls, down to idleness.
     offers.extend([offer(0, 1, 1); 9]);
-    // Client 3 and the timer fill up, and are full in an unsupplied and in a supplied tick.
+    // Client 3 fills up, and is full in an unsupplied and in a supplied tick.
     offers.extend([offer(4, 0, 1); 256]);
     offers.push(offer(12, 1, 1));
-    offers.extend([offer(1, 0, 1); 256]);
-    offers.extend([offer(5, 1, 1), offer(1, 1, 1)]);
-    // The timer runs once a poll, and has room for one beat after each run.
+    // The timer beats: one is kept, two are folded, and two more are in ticks that the full client
+    // has refused.
+    offers.extend([offer(1, 0, 1); 3]);
+    offers.extend([offer(5, 1, 1), offer(5, 0, 1), offer(1, 1, 1)]);
+    // The timer runs once a poll, and keeps one beat after each start.
     offers.extend([offer(0, 1, 1), offer(1, 1, 1), offer(1, 1, 1)].repeat(4));
     offers.extend([offer(0, 1, 1); 9]);
 }

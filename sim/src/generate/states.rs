@@ -6,8 +6,10 @@ use crate::random::Random;
 use crate::table::{encode, Kind, Table, LARGEST, MOST_CALLBACKS};
 use crate::text::Change;
 
-/// A state of this table that a tick does not refuse with 29.
+/// A state of this table that a tick does not refuse with 29. Timers have as many waiting as no
+/// history gives them (U6), by draws of their own.
 pub fn sound(random: &mut Random, table: &Table) -> State {
+    let mut aside = random.aside();
     let mut state = start(&encode(table)).state;
     state.ticks = *random.pick(&[0, 1, 10, 300, MOST_TICKS - 1, MOST_TICKS]);
     let waits: Vec<usize> = (1..=table.count()).filter(|_| random.chance(50)).collect();
@@ -16,6 +18,9 @@ pub fn sound(random: &mut Random, table: &Table) -> State {
         state.finished[index - 1] = *random.pick(&[0, most / 2, most]);
         if waits.contains(&index) {
             state.waiting[index - 1] = *random.pick(&[1, 2, 254, 255, 255]);
+            if table.callback(index).kind == Kind::Timer {
+                state.waiting[index - 1] = *aside.pick(&[1, 1, 2, 3, 254, 255]);
+            }
         }
     }
     let gathered = |index: usize| gathers(table.edition, table.callback(index).kind);

@@ -2,7 +2,7 @@
 //! guards compared, and what was compared counted.
 
 use crate::fence::Fence;
-use crate::layout::{pack, unpack, CACHE, LENGTH};
+use crate::layout::{pack, unpack, CACHE, LENGTH, WAITING};
 use library::{
     cuorfelt_analyse, cuorfelt_read, cuorfelt_start, cuorfelt_tick, cuorfelt_write, Refusal, Reply,
     Sheet, Written,
@@ -43,6 +43,10 @@ pub struct Totals {
     pub ticks: u64,
     /// Ticks, of all that were taken, on a state of edition 2 with something cached.
     pub second: u64,
+    /// Ticks that folded a beat, by edition, and those that folded one of a timer
+    /// with 255 instances waiting.
+    pub folded: [u64; 2],
+    pub folded_full: u64,
     pub damaged: u64,
     pub lengths: u64,
     /// Calls of the writer, and the tables that it wrote.
@@ -157,6 +161,7 @@ fn expected_tick(lent: &[u8], offer: Offer) -> (Reply, Vec<u8>) {
         started: step.reply.started.into(),
         polled: step.reply.polled.into(),
         gathered: step.reply.gathered as u8,
+        folded: step.reply.folded,
     };
     (reply, pack(&step.state).to_vec())
 }
@@ -175,6 +180,17 @@ impl Comparison {
 
     fn count(&mut self, function: Function, number: u8) {
         self.totals.refused[function as usize][usize::from(number)] += 1;
+    }
+
+    /// Beats that a tick on these bytes folded.
+    fn count_folded(&mut self, lent: &[u8], folded: u16) {
+        if folded == 0 {
+            return;
+        }
+        self.totals.folded[usize::from(lent[0] == 2)] += 1;
+        let full = |slot: usize| lent[WAITING + 2 * slot] == 255;
+        let beats = (0..16).filter(|slot| folded >> slot & 1 != 0);
+        self.totals.folded_full += u64::from(beats.into_iter().any(full));
     }
 
     /// Whether the lent table is as it was.
@@ -330,6 +346,7 @@ impl Comparison {
         self.count(Function::Tick, got.number);
         let cached = |bytes: &[u8]| bytes[CACHE] | bytes[CACHE + 1] != 0;
         self.totals.second += u64::from(got.number == 0 && lent[0] == 2 && cached(lent));
+        self.count_folded(lent, got.folded);
         same("reply", got, wanted)
             .and_then(|()| same_all("state", self.state.bytes(), &after))
             .and_then(|()| kept("state", &self.state))

@@ -4,7 +4,7 @@ use sim::machine::State;
 use sim::table::{HEADER_BYTES, MOST_CALLBACKS, RECORD_BYTES};
 
 pub const LENGTH: usize = 640;
-const WAITING: usize = 528;
+pub const WAITING: usize = 528;
 const FINISHED: usize = 560;
 const TICKS: usize = 624;
 pub const CACHE: usize = 628;

@@ -27,6 +27,8 @@ const LEAST_STARVED: u64 = 100;
 const LEAST_WRITTEN: u64 = 80_000;
 const LEAST_HELD_UP: u64 = 200;
 const LEAST_MET: u64 = 100;
+const LEAST_FOLDED: u64 = 50_000;
+const LEAST_FOLDED_FULL: u64 = 1_000;
 
 fn main() {
     let words: Vec<String> = std::env::args().skip(1).collect();
@@ -83,7 +85,9 @@ fn complete(totals: &Totals) -> Outcome {
     let late = totals.delayed >= LEAST_DELAYED && totals.starved >= LEAST_STARVED;
     let written = totals.written >= LEAST_WRITTEN;
     let timers = totals.held_up >= LEAST_HELD_UP && totals.met >= LEAST_MET;
-    if !many || !late || !written || !timers || totals.second < LEAST_SECOND {
+    let folded = totals.folded.iter().all(|&ticks| ticks >= LEAST_FOLDED)
+        && totals.folded_full >= LEAST_FOLDED_FULL;
+    if !many || !late || !written || !timers || !folded || totals.second < LEAST_SECOND {
         return Err(format!("too few compared: {}", summary(totals)));
     }
     let read: Vec<usize> = (0..=14).chain([22]).collect();
@@ -109,12 +113,15 @@ fn complete(totals: &Totals) -> Outcome {
 
 fn summary(totals: &Totals) -> String {
     format!(
-        "{} tables ({} with a sheet, {} of these with a delay), {} ticks ({} on a cache of edition 2), {} histories ({} starved as long as a delay permits; {} with a timer held up, which meets its bound in {} and that of before U5 in {}), {} damaged states, {} wrong lengths, {} writings ({} of them refused)",
+        "{} tables ({} with a sheet, {} of these with a delay), {} ticks ({} on a cache of edition 2; {} of edition 1 and {} of edition 2 fold a beat, {} of these one of a full timer), {} histories ({} starved as long as a delay permits; {} with a timer held up, which meets its bound in {} and that of before U5 in {}), {} damaged states, {} wrong lengths, {} writings ({} of them refused)",
         totals.tables,
         totals.accepted,
         totals.delayed,
         totals.ticks,
         totals.second,
+        totals.folded[0],
+        totals.folded[1],
+        totals.folded_full,
         totals.histories,
         totals.starved,
         totals.held_up,

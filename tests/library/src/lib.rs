@@ -38,6 +38,7 @@ pub struct Reply {
     pub started: u8,
     pub polled: u8,
     pub gathered: u8,
+    pub folded: u16,
 }
 
 extern "C" {
