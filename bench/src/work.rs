@@ -361,7 +361,8 @@ fn looped() -> Table {
     table
 }
 
-/// The same offer over and over: idle ticks, and ticks that are refused.
+/// The same offer over and over: idle ticks, ticks whose beats are nearly all folded, and ticks that
+/// are refused.
 fn repeated() -> Vec<Work> {
     let state = packed(&start(&encode(&longest())).state);
     let mut damaged = state.clone();
@@ -373,6 +374,11 @@ fn repeated() -> Vec<Work> {
     looped_state[..HEADER_BYTES + RECORD_BYTES * PLACES].copy_from_slice(&encode(&looped()));
     vec![
         Work::ticks("16 callbacks, idle", state.clone(), vec![(0, 1, 1); 1_000]),
+        Work::ticks(
+            "16 timers, all beats in every tick",
+            packed(&start(&encode(&timers_in_turn())).state),
+            vec![(u16::MAX, 1, 3); 1_000],
+        ),
         Work::ticks(
             "16 callbacks, refused with 19",
             state,

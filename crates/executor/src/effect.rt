@@ -21,10 +21,13 @@ ghost use Rattle.executor.specs.Effect.{foldedIn, arrive, unsupplied, in
 ghost use Rattle.executor.specs.Parts.{Room, Admissible, Completes, completedBy};
 
 impl Machine {
-    // The timers of the mask whose beat is folded.
+    // The timers of the mask whose beat is folded. Most ticks bring nothing, and need no copy of table and counts.
     fn folded(self, mask: u16) -> u16
         ensures { λ r. ⌜ r ≡ foldedIn self mask ⌝ }
     {
+        if mask == 0 {
+            return 0;
+        }
         let t = self.table;
         let counts = self.waiting;
         folding::folded(t, counts, self.running, mask)

@@ -1,6 +1,7 @@
 -- Beats that are folded, and arrivals that are kept. Assumes nothing.
 --   folds-not, folds-behind, folds-other   one beat, by its kind and by whether its callback runs
 --   Sifted, sifted, sifted-took, sifted-left, sifted-all   the slots of a mask that pass a test, looked at one after the other
+--   folded-none                            an empty mask
 --   kept-has, kept-in, kept-most           what is kept, as a mask; it is in the mask; most where nothing is folded
 --   kept-few                               of a timer whose beat is kept no instance waits unstarted
 use mathlib.Core.Path.{_≡_, refl, sym, ap, _∙_}
@@ -17,7 +18,7 @@ use borrow.Author.Tests.{eq-eqb, ne-eqb, ltb-false}
 use Rattle.masks.specs.Mask.{has, withBit, withoutBit, gather}
 use Rattle.masks.specs.Parts.{except}
 use Rattle.masks.proofs.Slots.{has-zero, has-with-same, has-with-other, has-without-same, has-without-other, has-except, with-lt, without-le, mask-ext}
-use Rattle.masks.proofs.Gather.{gather-in, gather-lt}
+use Rattle.masks.proofs.Gather.{gather-in, gather-lt, gather-none}
 use Rattle.ranges.specs.Sum.{given, hit}
 use Rattle.ranges.proofs.SumLaws.{hit-self, hit-other}
 use Rattle.ranges.proofs.EveryLaws.{and-holds, flipped}
@@ -91,6 +92,11 @@ module _ (p : ℕ → Bool) (mask : ℕ) where
   sifted-all rest acc s z =
       mask-ext 16 acc _ (s .fits) (gather-lt _ 16)
       (λ j l. sym (or-false (has acc j)) ∙ (rw (z, has-zero) at (s .same j)) ∙ sym (gather-in (λ j. has mask j && p j) 16 j l))
+
+-- nothing is folded where nothing comes
+pub folded-none : (t : Table) (ws : List ℕ) (running mask : ℕ) → mask ≡ 0 → 0 ≡ foldedOf t ws running mask
+unfolding foldedOf
+folded-none t ws running mask e = sym (gather-none _ places (λ i _. rw (e, has-zero i)))
 
 -- ---- what is kept
 
