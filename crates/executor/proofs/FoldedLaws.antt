@@ -4,7 +4,7 @@
 --   Prompt, fresh-prompt, tick-prompt   from a fresh state on, at most one instance of a timer waits that has not started
 use mathlib.Core.Path.{_≡_, refl, sym, subst, ap, _∙_}
 use mathlib.Core.Logic.{_≢_}
-use mathlib.Core.Bool.{Bool, true, false, _&&_, _||_}
+use mathlib.Core.Bool.{Bool, true, false, _||_}
 use Prim.Native.Nat.{ℕ, zero, suc, _+_, _≤_, _<_}
 use native.Mathlib.Omega.{arith}
 use lib.Dec.{eqb, leb}
@@ -66,7 +66,7 @@ module _ (m : Machine) (ok : Valid m) (mask cost : ℕ) (priced : (1 ≤ cost) �
         go (has (keptIn m mask) i) refl (b .0) (leb-true mostWaiting (waitingOf m i) (b .1)) (a .0)
       where
         go : (k : Bool) → has (keptIn m mask) i ≡ k → (k || eqb (nextActivated (m .table) (o .outcome)) (suc i)) ≡ true → mostWaiting ≤ waitingOf m i → i < places → ⊥
-        go true p q l h = absurd (omega (arith, hit-le (m .running) i, kept-few (m .table) (m .waiting) (m .running) mask i h timed (sym (kept-has mask (foldedIn m mask) i) ∙ p)))
+        go true p q l h = absurd (omega (arith, hit-le (m .running) i, kept-few (m .table) (m .waiting) (m .running) mask i h timed (sym (kept-has mask (foldedIn m mask) i h) ∙ p)))
         go false p q l h = not-next (finishedOf (o .outcome)) refl (eqb-true _ (suc i) q)
 
     -- of its instances at most one waits unstarted after the tick, if it was so before

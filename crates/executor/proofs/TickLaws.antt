@@ -15,6 +15,7 @@ use Rattle.table.specs.Values.{refuse, accepted, lowestRefused}
 use Rattle.table.specs.Links.{nextAfter, foreign}
 use Rattle.answers.specs.Outcome.{finishedOf}
 use Rattle.queues.specs.Queues.{fullWith}
+use Rattle.folding.proofs.FoldingLaws.{kept-mask}
 use Rattle.executor.specs.declared.Machine.{Machine}
 use Rattle.numbers.specs.Numbers
 use Rattle.executor.specs.State.{faulty}
@@ -56,9 +57,12 @@ module _ (m : Machine) (mask : ℕ) (supplied : Bool) (cost : ℕ) where
     pub finished-few : Admissible Numbers.mostWaiting m cost → foreign (m .table) mask ≡ 0 → x ≤ Numbers.places
     finished-few ok heads = subst (λ (y : ℕ). y ≤ Numbers.places) (sym finished-is) (finished-le ok heads)
 
-    pub full-is : (n k y : ℕ) → n ≡ nextAfter (m .table) x → k ≡ except mask (r .folded) → y ≡ fullWith (m .waiting) k n → y ≡ full m mask supplied cost
+    pub full-is : (n k y : ℕ) → mask < 65536 → n ≡ nextAfter (m .table) x → k ≡ except mask (r .folded) → y ≡ fullWith (m .waiting) k n → y ≡ full m mask supplied cost
     unfolding full
-    full-is n k y g q h = h ∙ ap₂ (fullWith (m .waiting)) (q ∙ ap (except mask) (ap (λ (z : Ticked). z .folded) e ∙ effect-folded)) (g ∙ ap (nextAfter (m .table)) finished-is)
+    full-is n k y l g q h =
+        h
+        ∙ ap₂ (fullWith (m .waiting)) (q ∙ ap (except mask) (ap (λ (z : Ticked). z .folded) e ∙ effect-folded) ∙ kept-mask mask _ l)
+        (g ∙ ap (nextAfter (m .table)) finished-is)
 
   module _ (x : ℕ) (e : x ≡ full m mask supplied cost) where
     pub admitted-full : x ≢ 0 → refused m (refuse Numbers.queueFull x) ≡ admitted m mask supplied cost

@@ -138,7 +138,7 @@ module _ (m : Machine) (ok : Valid m) (mask : ℕ) where
   pub arrive-at : (j : ℕ) → j < places → waitingOf (arrive m mask) j ≡ waitingOf m j + given (comes j) 1
   arrive-at j l =
       arrived-at (keptIn m mask) (m .waiting) j l (omega (arith, ok .sized .0))
-      ∙ ap (λ (b : Bool). waitingOf m j + given b 1) (kept-has mask (foldedIn m mask) j)
+      ∙ ap (λ (b : Bool). waitingOf m j + given b 1) (kept-has mask (foldedIn m mask) j l)
 
   pub valid-arrived : foreign (m .table) mask ≡ 0 → Valid (arrive m mask)
   valid-arrived heads = record {

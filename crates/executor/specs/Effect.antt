@@ -9,9 +9,8 @@ use Rattle.answers.specs.declared.Answer.the-variants.{NoSupply}
 use Rattle.answers.specs.declared.Outcome.{Outcome}
 use Rattle.answers.specs.declared.Outcome.the-variants.{Answered}
 use Rattle.answers.specs.Outcome.{finishedOf}
-use Rattle.masks.specs.Parts.{except}
 use Rattle.queues.specs.Queues.{arrived, counted, completed}
-use Rattle.folding.specs.Folding.{foldedOf}
+use Rattle.folding.specs.Folding.{foldedOf, keptOf}
 use Rattle.turns.specs.declared.Step.{Step}
 use Rattle.turns.specs.declared.Turn.{Turn}
 use Rattle.turns.specs.Turns.{turnOf, stepOf}
@@ -25,7 +24,7 @@ foldedIn m mask = foldedOf (m .table) (m .waiting) (m .running) mask
 
 -- and what of the mask is kept
 abbrev pub keptIn : Machine → ℕ → ℕ
-keptIn m mask = except mask (foldedIn m mask)
+keptIn m mask = keptOf mask (foldedIn m mask)
 
 -- step 1: the state with the arrivals of a mask that are kept
 abbrev pub arrive : Machine → ℕ → Machine

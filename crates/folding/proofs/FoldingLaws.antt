@@ -2,7 +2,7 @@
 --   folds-not, folds-behind, folds-other   one beat, by its kind and by whether its callback runs
 --   Sifted, sifted, sifted-took, sifted-left, sifted-all   the slots of a mask that pass a test, looked at one after the other
 --   folded-none                            an empty mask
---   kept-has, kept-in, kept-most           what is kept, as a mask; it is in the mask; most where nothing is folded
+--   kept-has, kept-mask, kept-in, kept-most   what is kept, as a mask; it is in the mask; most where nothing is folded
 --   kept-few                               of a timer whose beat is kept no instance waits unstarted
 use mathlib.Core.Path.{_≡_, refl, sym, ap, _∙_}
 use mathlib.Core.Logic.{_≢_}
@@ -17,7 +17,7 @@ use lib.ListN.{getD}
 use borrow.Author.Tests.{eq-eqb, ne-eqb, ltb-false}
 use Rattle.masks.specs.Mask.{has, withBit, withoutBit, gather}
 use Rattle.masks.specs.Parts.{except}
-use Rattle.masks.proofs.Slots.{has-zero, has-with-same, has-with-other, has-without-same, has-without-other, has-except, with-lt, without-le, mask-ext}
+use Rattle.masks.proofs.Slots.{has-zero, has-with-same, has-with-other, has-without-same, has-without-other, has-except, with-lt, without-le, except-lt, mask-ext}
 use Rattle.masks.proofs.Gather.{gather-in, gather-lt, gather-none}
 use Rattle.ranges.specs.Sum.{given, hit}
 use Rattle.ranges.proofs.SumLaws.{hit-self, hit-other}
@@ -25,7 +25,7 @@ use Rattle.ranges.proofs.EveryLaws.{and-holds, flipped}
 use Rattle.numbers.specs.Numbers.{places, timer}
 use Rattle.table.specs.declared.Table.{Table}
 use Rattle.table.specs.Values.{kindOf}
-use Rattle.folding.specs.Folding.{unstarted, folds, foldedOf, kept}
+use Rattle.folding.specs.Folding.{unstarted, folds, foldedOf, kept, keptOf}
 
 -- ---- one beat
 
@@ -101,9 +101,15 @@ folded-none t ws running mask e = sym (gather-none _ places (λ i _. rw (e, has-
 -- ---- what is kept
 
 -- as a mask
-pub kept-has : (mask folded i : ℕ) → has (except mask folded) i ≡ kept mask folded i
-unfolding kept
-kept-has mask folded i = has-except mask folded i
+pub kept-has : (mask folded i : ℕ) → i < places → has (keptOf mask folded) i ≡ kept mask folded i
+unfolding keptOf
+kept-has mask folded i l = gather-in (kept mask folded) places i l
+
+-- which is the mask without those folded
+pub kept-mask : (mask folded : ℕ) → mask < 65536 → except mask folded ≡ keptOf mask folded
+unfolding kept keptOf
+kept-mask mask folded l =
+    mask-ext 16 _ _ (except-lt 16 mask folded l) (gather-lt (kept mask folded) 16) (λ i h. has-except mask folded i ∙ sym (gather-in (kept mask folded) 16 i h))
 
 -- it is in the mask
 pub kept-in : (mask folded i : ℕ) → kept mask folded i ≡ true → has mask i ≡ true

@@ -25,3 +25,7 @@ foldedOf t ws running mask = gather (λ i. has mask i && folds t ws running i) p
 -- whether an arrival of slot i is kept: it is in the mask, and not among those folded
 unfoldable pub kept : ℕ → ℕ → ℕ → Bool
 kept mask folded i = has mask i && not (has folded i)
+
+-- the arrivals that are kept, as a mask
+unfoldable pub keptOf : ℕ → ℕ → ℕ
+keptOf mask folded = gather (kept mask folded) places

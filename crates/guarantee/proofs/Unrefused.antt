@@ -286,9 +286,9 @@ module _ (tb : Table) (analysed : Analysed tb) (h : List Tick) (short : length h
         go (inr b) = omega (arith, room t l g j b)
 
     -- those kept are those that it activates
-    kept-is : (j : ℕ) → has (keptIn m (x .mask)) j ≡ activates x (free t) j
+    kept-is : (j : ℕ) → j < places → has (keptIn m (x .mask)) j ≡ activates x (free t) j
     unfolding at
-    kept-is j = kept-has (x .mask) _ j ∙ ap (λ (f : ℕ). kept (x .mask) f j) (sym (effect-folded m (x .mask) (x .supplied) (x .cost)))
+    kept-is j k = kept-has (x .mask) _ j k ∙ ap (λ (f : ℕ). kept (x .mask) f j) (sym (effect-folded m (x .mask) (x .supplied) (x .cost)))
 
     -- 21
     none-full : full m (x .mask) (x .supplied) (x .cost) ≡ 0
@@ -306,7 +306,7 @@ module _ (tb : Table) (analysed : Analysed tb) (h : List Tick) (short : length h
 
         none : (j : ℕ) → j < places → (a : Bool) → has (keptIn m (x .mask)) j ≡ a → (b : Bool) → eqb (nextActivated (m .table) ((free t) .outcome)) (suc j) ≡ b
             → ((a || b) && leb mostWaiting (waitingOf m j)) ≡ false
-        none j k true p b q = comes j k (omega (arith, ap (λ (y : Bool). given y 1) (sym (kept-is j) ∙ p)))
+        none j k true p b q = comes j k (omega (arith, ap (λ (y : Bool). given y 1) (sym (kept-is j k) ∙ p)))
         none j k false p true q = comes j k (omega (arith, ap (λ (y : Bool). given y 1) q))
         none j k false p false q = refl
 

@@ -9,7 +9,6 @@ use lib.Dec.{T, ltb, leb}
 use lib.ListN.{length, getD, replicate}
 use borrow.Author.Tests.{ltb-true, leb-true}
 use Rattle.masks.specs.Mask.{has, withBit, withoutBit, gather, countOf}
-use Rattle.masks.specs.Parts.{except}
 use Rattle.lent.specs.Bytes.{numbers, run, zeros, fieldsAt, fieldBytes}
 use Rattle.lent.specs.Over.{over}
 use Rattle.ranges.specs.Sum.{sum, hit}
@@ -34,7 +33,7 @@ use Rattle.windows.specs.Bounds.{arrivalsOf, costOf, supplyOf, windowOf, boundO
 use Rattle.levels.specs.Levels.{overtakes, lowerThan, blockingBy, levelOf, windowOfLevel, boundOfLevel, boundOf}
 use Rattle.sheet.specs.Sheet.{tooManyAt, sheetFault, analysisFault, boundsTo, rowOf}
 use Rattle.queues.specs.Queues.{arrivedTo, arrived, counted, fullWith}
-use Rattle.folding.specs.Folding.{unstarted, foldedOf, kept}
+use Rattle.folding.specs.Folding.{unstarted, foldedOf, kept, keptOf}
 use Rattle.turns.specs.Choosing.{polled, gatheredOf, choose}
 use Rattle.turns.specs.Turns.{turnOf, stepOf}
 use Rattle.faults.specs.Faults.{tableFault, beyondWrong, countWrong, cacheWrong, slotWrong, runWrong}
@@ -76,7 +75,7 @@ pub record Computed (c : Case) : Type 0 where
 
 -- all of it by computation, of each
 pub computed : Computed one × Computed two × Computed delayed × Computed held-up
-unfolding has withBit withoutBit gather countOf except numbers run zeros fieldsAt fieldBytes over sum hit least largest every some ceiling arrivals cost supply delayedSupply limit horizonOf walk linked named isHead onLoop nextAfter foreign foremostFrom feeder headFrom headOf arrivalsFault linksFault headFault supplyFault entriesFault unusedFault recordFault recordsFrom bodyFault faultOf recordAt spareAt placed tableAt sparesAt wholeFault readFault readOf covered coveredFor window finish bound arrivalsOf costOf supplyOf windowOf boundOfAll arrivalsIn windowIn boundIn precedes overtakes lowerThan blockingBy levelOf windowOfLevel boundOfLevel boundOf tooManyAt sheetFault analysisFault boundsTo rowOf arrivedTo arrived counted fullWith unstarted foldedOf kept polled gatheredOf choose turnOf stepOf tableFault beyondWrong countWrong cacheWrong slotWrong runWrong fresh faulty unsupplied instanceAt left served effect full tickFault refused tickOf startOf results tickAt resultAt completesAt releasesAt releasedBy activatedAt activations activation startsAt completions completion one two delayed held-up everyWindow arrivalsHold supplyHolds costsHold headsHold offerHolds withinTest
+unfolding has withBit withoutBit gather countOf numbers run zeros fieldsAt fieldBytes over sum hit least largest every some ceiling arrivals cost supply delayedSupply limit horizonOf walk linked named isHead onLoop nextAfter foreign foremostFrom feeder headFrom headOf arrivalsFault linksFault headFault supplyFault entriesFault unusedFault recordFault recordsFrom bodyFault faultOf recordAt spareAt placed tableAt sparesAt wholeFault readFault readOf covered coveredFor window finish bound arrivalsOf costOf supplyOf windowOf boundOfAll arrivalsIn windowIn boundIn precedes overtakes lowerThan blockingBy levelOf windowOfLevel boundOfLevel boundOf tooManyAt sheetFault analysisFault boundsTo rowOf arrivedTo arrived counted fullWith unstarted foldedOf kept keptOf polled gatheredOf choose turnOf stepOf tableFault beyondWrong countWrong cacheWrong slotWrong runWrong fresh faulty unsupplied instanceAt left served effect full tickFault refused tickOf startOf results tickAt resultAt completesAt releasesAt releasedBy activatedAt activations activation startsAt completions completion one two delayed held-up everyWindow arrivalsHold supplyHolds costsHold headsHold offerHolds withinTest
 computed = (
   record { replied = refl; accepted = refl; written = refl; within = refl; short = tt; known = tt; activated = (tt, refl); reached = tt; meets = (tt, refl) },
   record { replied = refl; accepted = refl; written = refl; within = refl; short = tt; known = tt; activated = (tt, refl); reached = tt; meets = (tt, refl) },

@@ -5,7 +5,6 @@ use mathlib.Core.List.{List, [], _∷_, List·Memᴰ, List·Memᴰ·head, List·
 use Prim.Native.Nat.{ℕ}
 use lib.Dec.{T, eqb, eqb→eq}
 use Rattle.masks.specs.Mask.{has, withBit, withoutBit, gather, countOf}
-use Rattle.masks.specs.Parts.{except}
 use Rattle.lent.specs.Bytes.{numbers, run, zeros, fieldsAt, fieldBytes}
 use Rattle.lent.specs.Over.{over}
 use Rattle.ranges.specs.Sum.{sum, hit}
@@ -29,7 +28,7 @@ use Rattle.windows.specs.Bounds.{arrivalsOf, costOf, supplyOf, windowOf, boundO
 use Rattle.levels.specs.Levels.{overtakes, lowerThan, blockingBy, levelOf, windowOfLevel, boundOfLevel, boundOf}
 use Rattle.sheet.specs.Sheet.{tooManyAt, sheetFault, analysisFault, sheetOf, boundsTo, rowOf}
 use Rattle.queues.specs.Queues.{arrivedTo, arrived, counted, fullWith}
-use Rattle.folding.specs.Folding.{unstarted, foldedOf}
+use Rattle.folding.specs.Folding.{unstarted, foldedOf, kept, keptOf}
 use Rattle.turns.specs.Choosing.{polled, gatheredOf, choose}
 use Rattle.turns.specs.Turns.{turnOf, stepOf}
 use Rattle.faults.specs.Faults.{tableFault, beyondWrong, countWrong, cacheWrong, slotWrong, runWrong}
@@ -61,7 +60,7 @@ each {c} t (List·Memᴰ·head {x = x} {xs = cs} e) =
 each {c} t (List·Memᴰ·tail {x = x} {xs = cs} i) = each (both (same (x .reckoned) (x .paper)) (agree cs) t .1) i
 
 passes : T (agree table)
-unfolding has withBit withoutBit gather countOf except numbers run zeros fieldsAt fieldBytes over sum hit least largest every some ceiling arrivals cost supply delayedSupply limit horizonOf walk linked named isHead onLoop nextAfter foreign foremostFrom feeder headFrom headOf arrivalsFault linksFault headFault supplyFault entriesFault unusedFault recordFault recordsFrom bodyFault faultOf recordAt spareAt placed tableAt sparesAt wholeFault readFault readOf recordBytes recordsBytes written covered coveredFor window finish bound arrivalsOf costOf supplyOf windowOf boundOfAll arrivalsIn windowIn boundIn precedes overtakes lowerThan blockingBy levelOf windowOfLevel boundOfLevel boundOf tooManyAt sheetFault analysisFault sheetOf boundsTo rowOf arrivedTo arrived counted fullWith unstarted foldedOf polled gatheredOf choose turnOf stepOf tableFault beyondWrong countWrong cacheWrong slotWrong runWrong fresh faulty instanceAt left served effect full tickFault tickOf startOf saysOver table same agree
+unfolding has withBit withoutBit gather countOf numbers run zeros fieldsAt fieldBytes over sum hit least largest every some ceiling arrivals cost supply delayedSupply limit horizonOf walk linked named isHead onLoop nextAfter foreign foremostFrom feeder headFrom headOf arrivalsFault linksFault headFault supplyFault entriesFault unusedFault recordFault recordsFrom bodyFault faultOf recordAt spareAt placed tableAt sparesAt wholeFault readFault readOf recordBytes recordsBytes written covered coveredFor window finish bound arrivalsOf costOf supplyOf windowOf boundOfAll arrivalsIn windowIn boundIn precedes overtakes lowerThan blockingBy levelOf windowOfLevel boundOfLevel boundOf tooManyAt sheetFault analysisFault sheetOf boundsTo rowOf arrivedTo arrived counted fullWith unstarted foldedOf kept keptOf polled gatheredOf choose turnOf stepOf tableFault beyondWrong countWrong cacheWrong slotWrong runWrong fresh faulty instanceAt left served effect full tickFault tickOf startOf saysOver table same agree
 passes = tt
 
 pub reckoned : Reckoned

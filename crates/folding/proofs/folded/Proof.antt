@@ -1,5 +1,5 @@
 -- `folded` meets its contract. The loop: of the slots passed, the mask so far has those whose beat is folded. What is left of the mask falls.
-use mathlib.Core.Path.{_≡_, refl, sym, _∙_}
+use mathlib.Core.Path.{sym, _∙_}
 use mathlib.Core.Logic.{⊎-elim}
 use native.Mathlib.Omega.{arith}
 use borrow.Author.Needs.{needs}

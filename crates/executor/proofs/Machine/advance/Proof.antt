@@ -16,7 +16,7 @@ found : (c : tie.After-full-with)
     ≡ (let a = c .before .before .before .before .before .before .before .args in full (a .self) (a .mask) (a .supplied) (a .cost))
 found c =
     full-is (c .before .before .before .before .before .before .before .args .self) _ _ _ _ (c .before .before .before .before .before .before .effect .ensures) _
-    (c .before .before .before .before .finished .ensures) _ _ _ (c .before .before .before .next-after .ensures) (c .before .outside .ensures) (c .full-with .ensures)
+    (c .before .before .before .before .finished .ensures) _ _ _ (c .before .before .before .before .before .before .before .fits .mask .fits) (c .before .before .before .next-after .ensures) (c .before .outside .ensures) (c .full-with .ensures)
 
 returns : tie.Need-returns
 returns c = c .refuse .ensures ∙ admitted-full _ _ _ _ _ (found (c .before .before)) (c .before .if1 .taken)
