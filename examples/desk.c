@@ -7,7 +7,7 @@
  * Prints `window W` and a line `INDEX BOUND` for each callback, or `refused NUMBER INDEX`; then `start accepted` or
  * `start refused NUMBER INDEX`, and a line for each tick T: `T ANSWER CALLBACK INSTANCE STARTED POLLED GATHERED FOLDED`,
  * or `T refused NUMBER INDEX`. What stands behind a # is the same in words: names, chains, the edition, the reason of a refusal, the timers whose
- * beat was folded; and at the end, a line each, how many beats every such timer missed.
+ * beat was folded (FOLDED is a mask, bit i - 1 for callback i); and at the end, a line each, how many beats every such timer missed.
  * Ends with 0; with 1 where the table, the start or a tick was refused; with 2 where a file cannot be read or the output not be written. */
 #include "cuorfelt.h"
 #include "cuorfelt_text.h"

@@ -163,7 +163,7 @@ cuorfelt_written cuorfelt_write(uint16_t edition, uint16_t count, uint16_t budge
                                 const uint16_t *records, size_t numbers, uint8_t *buffer, size_t length);
 
 /* Analyses a table of n callbacks: returns the window and writes the bounds of callbacks 1 to n to row[0] to row[n - 1].
- * The bound of a timer of edition 1 is the smaller of two (since 1.4; docs/GUIDE.md, 'The sheet').
+ * The bound of a timer of edition 1 is the smaller of two (since 1.4; GUIDE.md, 'The sheet').
  * Places of the row from n on are not touched. A refusal, 17 (fewer than 16 places), any that cuorfelt_read gives, 15 or 16, touches no
  * place of the row and returns window 0. */
 cuorfelt_sheet cuorfelt_analyse(const uint8_t *table, size_t length, uint16_t *row, size_t places);
@@ -176,7 +176,7 @@ cuorfelt_refusal cuorfelt_start(const uint8_t *table, size_t length, uint8_t *st
 /* Takes one tick on the state in the lent bytes: arrivals in the mask (bit i - 1 for callback i, heads only), whether the tick is supplied
  * (0, or anything else), and the cost of an instance that starts in it (1 to 60,000, used or not).
  * Where the number is 0 the lent bytes hold the next state. Refusals, in this order: 29 (another length, or bytes that hold no state),
- * 18 (1,000,000,000 ticks taken), 19 (the cost), 20 (the mask), 21 (255 waiting). A refusal leaves the lent bytes as they were, and the
+ * 18 (1,000,000,000 ticks taken), 19 (the cost), 20 (the mask), 21 (255 waiting, never of a timer). A refusal leaves the lent bytes as they were, and the
  * tick is not counted. */
 cuorfelt_reply cuorfelt_tick(uint8_t *state, size_t state_length, uint16_t mask, uint8_t supplied, uint32_t cost);
 
