@@ -176,8 +176,8 @@ cuorfelt_refusal cuorfelt_start(const uint8_t *table, size_t length, uint8_t *st
 /* Takes one tick on the state in the lent bytes: arrivals in the mask (bit i - 1 for callback i, heads only), whether the tick is supplied
  * (0, or anything else), and the cost of an instance that starts in it (1 to 60,000, used or not).
  * Where the number is 0 the lent bytes hold the next state. Refusals, in this order: 29 (another length, or bytes that hold no state),
- * 18 (1,000,000,000 ticks taken), 19 (the cost), 20 (the mask), 21 (255 waiting, never of a timer). A refusal leaves the lent bytes as they were, and the
- * tick is not counted. */
+ * 18 (1,000,000,000 ticks taken), 19 (the cost), 20 (the mask), 21 (255 waiting, never of a timer). A refusal leaves the lent bytes as they
+ * were, and the tick is not counted. */
 cuorfelt_reply cuorfelt_tick(uint8_t *state, size_t state_length, uint16_t mask, uint8_t supplied, uint32_t cost);
 
 #ifdef __cplusplus

@@ -10,7 +10,7 @@ use Rattle.busy_window.specs.Counts.{Counts}
 
 -- what tick t and its answer say, of callback i and of the tick
 pub record Events : Type 0 where
-  -- 1 where i is in the mask
+  -- 1 where i arrives
   pub arrives : ℕ → ℕ → ℕ
   -- 1 where an instance of i starts
   pub starts : ℕ → ℕ → ℕ
