@@ -3,7 +3,7 @@
 --   activatedTo        activations of the heads of chains, before a time
 --   pure, pure-runs    the counts of the run without refusals, and that they are a Run
 --   none-foreign, orderly   only heads are in the masks
---   Agree, within      where the two runs agree so far, the history is within the curves for both
+--   Agree, no-more, within   where the two runs agree so far, the history is within the curves for both, with the arrivals of the next tick
 --   room, not-full     no waiting count exceeds 255 then
 --   agree              so the next tick is not refused, and they agree at it too
 use mathlib.Core.Path.{_≡_, refl, subst, sym, ap, _∙_}
