@@ -4,9 +4,9 @@
 --   folded-none                            an empty mask
 --   kept-has, kept-mask, kept-in, kept-most   what is kept, as a mask; it is in the mask; most where nothing is folded
 --   kept-few                               of a timer whose beat is kept no instance waits unstarted
-use mathlib.Core.Path.{_≡_, refl, sym, ap, _∙_}
+use mathlib.Core.Path.{_≡_, sym, ap, _∙_}
 use mathlib.Core.Logic.{_≢_}
-use mathlib.Core.Bool.{Bool, true, false, not, _&&_, _||_}
+use mathlib.Core.Bool.{Bool, true, false, not, _&&_, _||_, or-true, or-false}
 use mathlib.Core.List.{List}
 use Prim.Native.Nat.{ℕ, suc, _≤_, _<_}
 use native.Mathlib.Nat.{le-refl}
@@ -56,14 +56,6 @@ pub record Sifted (p : ℕ → Bool) (mask rest acc : ℕ) : Type 0 where
   pub same : (j : ℕ) → (has acc j || (has rest j && p j)) ≡ (has mask j && p j)
 
 module _ (p : ℕ → Bool) (mask : ℕ) where
-  or-true : (b : Bool) → (b || true) ≡ true
-  or-true true = refl
-  or-true false = refl
-
-  or-false : (b : Bool) → (b || false) ≡ b
-  or-false true = refl
-  or-false false = refl
-
   pub sifted : mask < 65536 → Sifted p mask mask 0
   sifted l = record { small = l; fits = omega arith; same = λ j. ap (λ (b : Bool). b || (has mask j && p j)) (has-zero j) }
 

@@ -1,7 +1,7 @@
 -- Which slots a mask has after one is set or cleared, and of two masks together; masks below 2 ^ n that agree on n slots are equal.
 -- Everything goes by the lowest slot and the half of a mask, or by the bitwise laws of lib.Bits. Assumes nothing.
 use mathlib.Core.Path.{_≡_, refl, sym, ap, ap₂, _∙_, subst}
-use mathlib.Core.Bool.{Bool, true, false, cond, not, _&&_, _||_}
+use mathlib.Core.Bool.{Bool, true, false, cond, not, _&&_, _||_, or-true, or-false}
 use Prim.Native.Nat.{ℕ, zero, suc, _+_, _-_, _*_, _/_, _%_, _^_, _≤_, _<_, min}
 use native.Mathlib.Nat.{mod-lt, add-zero, zero-mul, one-mul, mul-comm, div-div-eq-div-mul, div-one, div-eq-of-lt, pow-suc, lt-of-lt-of-le}
 use native.Mathlib.Numerals.{add-one}
@@ -151,14 +151,6 @@ has-with m i k = ap (λ (x : ℕ). has x k) (with-or m i) ∙ has-or m (2 ^ i) k
 
 pub has-without : (m i k : ℕ) → has (withoutBit m i) k ≡ (has m k && not (eqb k i))
 has-without m i k = ap (λ (x : ℕ). has x k) (without-except m i) ∙ has-except m (2 ^ i) k ∙ ap (λ (b : Bool). has m k && not b) (has-pow i k)
-
-or-true : (b : Bool) → (b || true) ≡ true
-or-true true = refl
-or-true false = refl
-
-or-false : (b : Bool) → (b || false) ≡ b
-or-false true = refl
-or-false false = refl
 
 and-true : (b : Bool) → (b && true) ≡ b
 and-true true = refl
