@@ -1,6 +1,6 @@
--- Laws of the cost E(n): E(0) = 0, E(q × m + r) = q × E(m) + E(r), and E rises strictly where the entries do.
+-- Laws of the cost E(n): E(0) = 0, E(k) is the entry up to m, E(q × m + r) = q × E(m) + E(r), and E rises strictly where the entries do.
 -- entry-take, entry-none, entry-at, cost-used, used-under: the entries as the code reads them, out of eight places of which the first m are used.
-use mathlib.Core.Path.{_≡_, refl, subst, ap}
+use mathlib.Core.Path.{_≡_, refl, subst, sym, ap}
 use mathlib.Core.Logic.{_⊎_, inl, inr}
 use mathlib.Core.List.{List}
 use Prim.Native.Nat.{ℕ, zero, suc, _+_, _*_, _-_, _/_, _%_, _≤_, _<_}
@@ -24,6 +24,20 @@ module _ (es : List ℕ) where
   -- E(0) = 0
   pub cost-zero : 0 < length es → cost es 0 ≡ 0
   cost-zero h = cost-entry 0 h
+
+  -- and up to the last of them
+  pub cost-listed : 0 < length es → (k : ℕ) → k ≤ length es → cost es k ≡ entry es k
+  cost-listed p k h = go (eq-or-lt-of-le h)
+    where
+      m : ℕ
+      m = length es
+
+      whole : 1 * m + 0 ≡ m
+      whole = omega arith
+
+      go : (k ≡ m) ⊎ (k < m) → cost es k ≡ entry es k
+      go (inl e) = subst (λ (x : ℕ). cost es x ≡ entry es x) (sym e) (omega (arith, ap (cost es) whole, cost-at 1 0 p))
+      go (inr l) = cost-entry k l
 
   pub cost-up : 0 < length es → RisingEntries es → (n : ℕ) → cost es n < cost es (suc n)
   cost-up p up n = go (eq-or-lt-of-le (mod-lt n p))

@@ -26,8 +26,8 @@ use Rattle.table.specs.Links.{linked, named, isHead, onLoop, nextAfter, foreign
 use Rattle.priority.specs.Priority.{precedes, foremostFrom}
 use Rattle.chains.specs.Chains.{feeder, headFrom, headOf}
 use Rattle.link_rules.specs.LinkRules.{arrivalsFault, linksFault}
-use Rattle.rules.specs.Rules.{headFault, supplyFault, entriesFault, unusedFault, recordFault, recordsFrom, bodyFault, faultOf}
-use Rattle.reader.specs.Format.{recordAt, spareAt, tableAt, sparesAt, wholeFault, readFault, readOf}
+use Rattle.rules.specs.Rules.{headFault, supplyFault, entriesFault, sumsFault, unusedFault, recordFaultBy, recordsBy, bodyBy, faultOf}
+use Rattle.reader.specs.Format.{recordAt, spareAt, tableAt, sparesAt, wholeBy, readFaultBy, readBy}
 use Rattle.windows.specs.Window.{covered, coveredFor, window, finish, bound}
 use Rattle.windows.specs.Bounds.{arrivalsOf, costOf, supplyOf, windowOf, boundOfAll, arrivalsIn, windowIn, boundIn}
 use Rattle.levels.specs.Levels.{overtakes, lowerThan, blockingBy, levelOf, windowOfLevel, boundOfLevel, boundOf}
@@ -75,7 +75,7 @@ pub record Computed (c : Case) : Type 0 where
 
 -- all of it by computation, of each
 pub computed : Computed one × Computed two × Computed delayed × Computed held-up
-unfolding has withBit withoutBit gather countOf numbers run zeros fieldsAt fieldBytes over sum hit least largest every some ceiling arrivals cost supply delayedSupply limit horizonOf walk linked named isHead onLoop nextAfter foreign foremostFrom feeder headFrom headOf arrivalsFault linksFault headFault supplyFault entriesFault unusedFault recordFault recordsFrom bodyFault faultOf recordAt spareAt placed tableAt sparesAt wholeFault readFault readOf covered coveredFor window finish bound arrivalsOf costOf supplyOf windowOf boundOfAll arrivalsIn windowIn boundIn precedes overtakes lowerThan blockingBy levelOf windowOfLevel boundOfLevel boundOf tooManyAt sheetFault analysisFault boundsTo rowOf arrivedTo arrived counted fullWith unstarted foldedOf kept keptOf polled gatheredOf choose turnOf stepOf tableFault beyondWrong countWrong cacheWrong slotWrong runWrong fresh faulty unsupplied instanceAt left served effect full tickFault refused tickOf startOf results tickAt resultAt completesAt releasesAt releasedBy activatedAt activations activation startsAt completions completion one two delayed held-up everyWindow arrivalsHold supplyHolds costsHold headsHold offerHolds withinTest
+unfolding has withBit withoutBit gather countOf numbers run zeros fieldsAt fieldBytes over sum hit least largest every some ceiling arrivals cost supply delayedSupply limit horizonOf walk linked named isHead onLoop nextAfter foreign foremostFrom feeder headFrom headOf arrivalsFault linksFault headFault supplyFault entriesFault sumsFault unusedFault recordFaultBy recordsBy bodyBy faultOf recordAt spareAt placed tableAt sparesAt wholeBy readFaultBy readBy covered coveredFor window finish bound arrivalsOf costOf supplyOf windowOf boundOfAll arrivalsIn windowIn boundIn precedes overtakes lowerThan blockingBy levelOf windowOfLevel boundOfLevel boundOf tooManyAt sheetFault analysisFault boundsTo rowOf arrivedTo arrived counted fullWith unstarted foldedOf kept keptOf polled gatheredOf choose turnOf stepOf tableFault beyondWrong countWrong cacheWrong slotWrong runWrong fresh faulty unsupplied instanceAt left served effect full tickFault refused tickOf startOf results tickAt resultAt completesAt releasesAt releasedBy activatedAt activations activation startsAt completions completion one two delayed held-up everyWindow arrivalsHold supplyHolds costsHold headsHold offerHolds withinTest
 computed = (
   record { replied = refl; accepted = refl; written = refl; within = refl; short = tt; known = tt; activated = (tt, refl); reached = tt; meets = (tt, refl) },
   record { replied = refl; accepted = refl; written = refl; within = refl; short = tt; known = tt; activated = (tt, refl); reached = tt; meets = (tt, refl) },

@@ -84,6 +84,9 @@ wrongNext = 9
 abbrev pub wrongEntries : ℕ
 wrongEntries = 10
 
+abbrev pub aboveSum : ℕ
+aboveSum = 24
+
 -- refusals: links and arrivals
 abbrev pub namedTwice : ℕ
 namedTwice = 11

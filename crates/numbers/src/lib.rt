@@ -58,6 +58,8 @@ pub const WRONG_NEXT: u8 = 9;
 
 pub const WRONG_ENTRIES: u8 = 10;
 
+pub const ABOVE_SUM: u8 = 24;
+
 // Refusals: links and arrivals.
 pub const NAMED_TWICE: u8 = 11;
 

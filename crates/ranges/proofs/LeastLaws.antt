@@ -1,17 +1,17 @@
--- Laws of the searches and of the largest.
+-- Laws of the searches, of the largest and of the smallest.
 -- least: least-spec, least-found, least-by, least-is, least-within, least-same (of First and Nowhere, what a search finds).
 -- rest p h d, what is left of a search of 1 to h at d: rest-start, rest-end, rest-hit, rest-miss, rest-skip.
 -- lowest: lowest-hit, lowest-first, lowest-some, lowest-none, lowest-le, lowest-is, lowest-never, lowest-same.
 -- restSlots p n i, what is left of a search of the slots below n at i: slots-end, slots-hit, slots-miss.
--- largest: largest-le, largest-upper, largest-hit, largest-more.
+-- largest: largest-le, largest-upper, largest-hit, largest-more. smallest: smallest-first, smallest-le, smallest-hit, smallest-more, smallest-same.
 use mathlib.Core.Path.{_≡_, refl, ap, ap₂, sym, _∙_, subst}
 use mathlib.Core.Logic.{_⊎_, inl, inr, _≢_}
 use mathlib.Core.Bool.{Bool, true, false}
-use Prim.Native.Nat.{ℕ, zero, suc, _+_, _-_, _≤_, _<_, max}
+use Prim.Native.Nat.{ℕ, zero, suc, _+_, _-_, _≤_, _<_, min, max}
 use native.Mathlib.Nat.{eq-or-lt-of-le, le-refl}
 use native.Mathlib.Numerals.{add-one}
 use native.Mathlib.Omega.{arith}
-use Rattle.ranges.specs.Least.{least, byIndex, lowest, largest}
+use Rattle.ranges.specs.Least.{least, byIndex, lowest, largest, smallest}
 use Rattle.ranges.proofs.SumLaws.{le-or-lt, one-further}
 use Rattle.ranges.proofs.EveryLaws.{never-both}
 
@@ -231,3 +231,42 @@ module _ (f : ℕ → ℕ) where
   pub largest-more : (n : ℕ) → max (largest n f) (f n) ≡ largest (n + 1) f
   unfolding largest
   largest-more n = ap (λ (k : ℕ). largest k f) (sym (add-one n))
+
+-- ---- the smallest
+
+module _ (x : ℕ) where
+  module _ (f : ℕ → ℕ) where
+    -- the smallest is at most the first
+    pub smallest-first : (n : ℕ) → smallest x n f ≤ x
+    unfolding smallest
+    smallest-first zero = le-refl x
+    smallest-first (suc n) = omega (arith, smallest-first n)
+
+    -- and at most each of the others
+    pub smallest-le : (n i : ℕ) → i < n → smallest x n f ≤ f i
+    unfolding smallest
+    smallest-le zero i l = absurd (omega arith)
+    smallest-le (suc n) i l = one-further (λ j. min (smallest x n f) (f n) ≤ f j) n (λ j k. omega (arith, smallest-le n j k)) (omega arith) i l
+
+    -- it is one of them
+    pub smallest-hit : (n : ℕ) → (smallest x n f ≡ x) ⊎ ((i : ℕ) × (i < n) × (smallest x n f ≡ f i))
+    unfolding smallest
+    smallest-hit zero = inl refl
+    smallest-hit (suc n) = go (le-or-lt (smallest x n f) (f n)) (smallest-hit n)
+      where
+        go : (smallest x n f ≤ f n) ⊎ (f n < smallest x n f) → (smallest x n f ≡ x) ⊎ ((i : ℕ) × (i < n) × (smallest x n f ≡ f i))
+            → (min (smallest x n f) (f n) ≡ x) ⊎ ((i : ℕ) × (i < suc n) × (min (smallest x n f) (f n) ≡ f i))
+        go (inr l) r = inr (n, le-refl _, omega arith)
+        go (inl l) (inl e) = inl (omega arith)
+        go (inl l) (inr y) = inr (y .0, omega (arith, y .1), omega (arith, y .2))
+
+    -- one more of them, as a loop adds it
+    pub smallest-more : (n : ℕ) → min (smallest x n f) (f n) ≡ smallest x (n + 1) f
+    unfolding smallest
+    smallest-more n = ap (λ (k : ℕ). smallest x k f) (sym (add-one n))
+
+  -- of the same numbers it is the same
+  pub smallest-same : (f g : ℕ → ℕ) (n : ℕ) → ((i : ℕ) → i < n → f i ≡ g i) → smallest x n f ≡ smallest x n g
+  unfolding smallest
+  smallest-same f g zero h = refl
+  smallest-same f g (suc n) h = ap₂ min (smallest-same f g n (λ i l. h i (omega arith))) (h n (omega arith))

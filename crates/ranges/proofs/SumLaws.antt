@@ -1,13 +1,13 @@
 -- Laws of sums over the numbers below n, and two searches over them.
 -- le-or-lt, mono-upto, one-further: the order, functions that do not fall, what holds below n and at n. all-or-one: all stay within, or one does not.
 -- sum-le, sum-gap, sum-lt, sum-add, sum-same: two sums compared, added, equal. sum-none, sum-one, sum-part, sum-more: a sum of nothing, one
--- of a single term, one of its terms, one term more.
+-- of a single term, one of its terms, one term more. sum-window: the terms from t on.
 -- given-le, given-up: what is given or not. hit-self, hit-other, hit-none, hit-le, sum-hit: an index that is that of a slot, and that summed over the slots.
 use mathlib.Core.Path.{_≡_, refl, subst, sym, ap, _∙_}
 use mathlib.Core.Logic.{_⊎_, inl, inr, _≢_}
 use mathlib.Core.Bool.{Bool, true, false}
 use Prim.Native.Nat.{ℕ, zero, suc, _+_, _≤_, _<_}
-use native.Mathlib.Nat.{eq-or-lt-of-le, lt-of-not-le, le-refl}
+use native.Mathlib.Nat.{eq-or-lt-of-le, lt-of-not-le, le-refl, add-zero, add-suc}
 use native.Mathlib.Numerals.{add-one}
 use native.Mathlib.Decide.{decLe, ℕ-discrete}
 use native.Mathlib.Omega.{arith}
@@ -115,6 +115,12 @@ module _ (f : ℕ → ℕ) where
   unfolding sum
   sum-part zero i l = omega arith
   sum-part (suc n) i l = one-further (λ j. f j ≤ sum n f + f n) n (λ j k. omega (arith, sum-part n j k)) (omega arith) i l
+
+  -- the terms below t, and then those of a window of d from t on
+  pub sum-window : (t d : ℕ) → sum (t + d) f ≡ sum t f + sum d (λ u. f (t + u))
+  unfolding sum
+  sum-window t zero = ap (λ (k : ℕ). sum k f) (add-zero t) ∙ sym (add-zero (sum t f))
+  sum-window t (suc d) = rw add-suc (omega (arith, sum-window t d))
 
 -- ---- an index that is that of a slot
 

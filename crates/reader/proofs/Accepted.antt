@@ -1,10 +1,11 @@
 -- What an accepted reading says of the bytes and of the table. Assumes nothing.
 -- read-refused, reading-is: a refused reading, and the refusal that a reading carries.
 -- ReadPassed, read-passed: what bytes with readFault number 0 have passed. read-spare: each record's spare bytes.
+-- ReadPassedBy, passed-by, zero-by, table-by, sound-read, record-by: the same of bytes that were read with 24 tested or not.
 -- read-accepted, read-sound, read-table: their table has no fault, is sound, and is what is read. read-record, read-blank: its places.
 use mathlib.Core.Path.{_≡_, refl, sym, ap, _∙_}
 use mathlib.Core.Logic.{_⊎_, inl, inr, _≢_}
-use mathlib.Core.Bool.{false, not}
+use mathlib.Core.Bool.{Bool, true, false, not}
 use mathlib.Core.List.{List}
 use Prim.Native.Nat.{ℕ, _≤_, _<_}
 use native.Mathlib.Decide.{ℕ-discrete}
@@ -22,44 +23,54 @@ use Rattle.table.proofs.RefusalLaws.{first-passed, both-passed}
 use Rattle.table.proofs.PlacedLaws.{placed-in, placed-out}
 use Rattle.rules.specs.Rules.{headFault, faultOf}
 use Rattle.rules.specs.Parts.{Sound}
-use Rattle.rules.proofs.Passed.{test-zero, HeadPassed, head-passed, BodyPassed, body-passed, body-accepted, fault-accepted}
-use Rattle.rules.proofs.Sound.{sound}
+use Rattle.rules.proofs.Passed.{test-zero, HeadPassed, head-passed, BodyPassedBy, body-passed, body-accepted, fault-accepted}
+use Rattle.rules.proofs.Sound.{sound-by}
 use Rattle.reader.specs.declared.Reading.{Reading}
-use Rattle.reader.specs.Format.{headerClear, recordAt, spareAt, recordStart, tableAt, sparesAt, wholeFault, readFault, refusedReading, readOf}
+use Rattle.reader.specs.Format.{headerClear, recordAt, spareAt, recordStart, tableAt, sparesAt, wholeBy, readFault, readFaultBy, refusedReading, readOf, readBy}
 use Rattle.reader.proofs.FormatLaws.{read-short, reading-refused, reading-whole}
 
 -- ---- the reading
 
 module _ (b : List ℕ) where
   pub read-refused : (readFault b) .number ≢ 0 → readOf b ≡ refusedReading (readFault b)
-  read-refused h = reading-refused b (readFault b) refl h
+  read-refused h = reading-refused true b (readFault b) refl h
 
   pub reading-is : (readOf b) .refusal ≡ readFault b
   reading-is = go (ℕ-discrete ((readFault b) .number) 0)
     where
       go : Dec ((readFault b) .number ≡ 0) → (readOf b) .refusal ≡ readFault b
-      go (yes e) = ap (λ (r : Reading). r .refusal) (reading-whole b (readFault b) refl e)
+      go (yes e) = ap (λ (r : Reading). r .refusal) (reading-whole true b (readFault b) refl e)
       go (no h) = ap (λ (r : Reading). r .refusal) (read-refused h)
 
-  pub record ReadPassed : Type 0 where
+-- ---- what has passed, with 24 tested or not
+
+module _ (sums : Bool) (b : List ℕ) where
+  pub record ReadPassedBy : Type 0 where
     pub long : headerLength ≤ length b
     pub head-zero : (headFault (getD b 0 0) (getD b 1 0)) .number ≡ 0
     pub head : HeadPassed (getD b 0 0) (getD b 1 0)
     pub fits : length b ≡ recordStart (getD b 1 0)
-    pub body : BodyPassed (not (headerClear b)) (sparesAt b) (tableAt b)
+    pub body : BodyPassedBy sums (not (headerClear b)) (sparesAt b) (tableAt b)
 
-  module _ (ok : (readFault b) .number ≡ 0) where
-    pub read-passed : ReadPassed
-    unfolding readFault wholeFault
-    read-passed =
-        let two = both-passed (headFault (getD b 0 0) (getD b 1 0)) (wholeFault b) (rw (le-ltb (length b) headerLength long, readFault) at ok) in
+  -- what has passed is accepted, with index 0 too
+  pub zero-by : ReadPassedBy → readFaultBy sums b ≡ accepted
+  unfolding readFaultBy wholeBy
+  zero-by p =
+      rw (le-ltb (length b) headerLength (p .long), readFaultBy)
+      (first-passed _ _ (p .head-zero) ∙ rw (eq-eqb (length b) (recordStart (getD b 1 0)) (p .fits)) (body-accepted sums (not (headerClear b)) (sparesAt b) (tableAt b) (p .body)))
+
+  module _ (ok : (readFaultBy sums b) .number ≡ 0) where
+    pub passed-by : ReadPassedBy
+    unfolding readFaultBy wholeBy
+    passed-by =
+        let two = both-passed (headFault (getD b 0 0) (getD b 1 0)) (wholeBy sums b) (rw (le-ltb (length b) headerLength long, readFaultBy) at ok) in
         let three = test-zero (not (eqb (length b) (recordStart (getD b 1 0)))) wrongLength 0 _ (λ z. omega arith) (two .1) in
         record {
           long = long;
           head-zero = two .0;
           head = head-passed (getD b 0 0) (getD b 1 0) (two .0);
           fits = eqb-true (length b) (recordStart (getD b 1 0)) (not-false _ (three .0));
-          body = body-passed (not (headerClear b)) (sparesAt b) (tableAt b) (three .1);
+          body = body-passed sums (not (headerClear b)) (sparesAt b) (tableAt b) (three .1);
         }
       where
         long : headerLength ≤ length b
@@ -67,36 +78,48 @@ module _ (b : List ℕ) where
           where
             go : (headerLength ≤ length b) ⊎ (length b < headerLength) → headerLength ≤ length b
             go (inl h) = h
-            go (inr h) = absurd (omega (arith, ap (λ (r : Refusal). r .number) (read-short b h)))
+            go (inr h) = absurd (omega (arith, ap (λ (r : Refusal). r .number) (read-short sums b h)))
 
-    -- a record's spare bytes
-    pub read-spare : (i : ℕ) → i < getD b 1 0 → spareAt b (recordStart i) ≡ false
-    unfolding tableAt fieldsAt numbers sparesAt
-    read-spare i l = sym (gather-in (λ i. spareAt b (recordStart i)) (getD b 1 0) i l) ∙ read-passed .body .records i l .clear
+    pub table-by : (readBy sums b) .table ≡ tableAt b
+    table-by = ap (λ (r : Reading). r .table) (reading-whole sums b accepted (zero-by passed-by) refl)
 
-    -- nothing is refused, with index 0 too
-    read-zero : readFault b ≡ accepted
-    unfolding readFault wholeFault
-    read-zero =
-        let p = read-passed in
-        rw (le-ltb (length b) headerLength (p .long), readFault)
-        (first-passed _ _ (p .head-zero) ∙ rw (eq-eqb (length b) (recordStart (getD b 1 0)) (p .fits)) (body-accepted (not (headerClear b)) (sparesAt b) (tableAt b) (p .body)))
-
-    pub read-table : (readOf b) .table ≡ tableAt b
-    read-table = ap (λ (r : Reading). r .table) (reading-whole b accepted read-zero refl)
-
-    pub read-accepted : faultOf (tableAt b) ≡ accepted
+    pub sound-read : Sound (tableAt b)
     unfolding tableAt fieldsAt numbers
-    read-accepted = fault-accepted (tableAt b) (not (headerClear b)) (sparesAt b) (read-passed .head-zero) (read-passed .body)
+    sound-read = sound-by sums (not (headerClear b)) (sparesAt b) (tableAt b) (passed-by .head) (passed-by .body)
 
-    pub read-sound : Sound (tableAt b)
-    read-sound = sound (tableAt b) (ap (λ (r : Refusal). r .number) read-accepted)
-
-    -- the place of each slot below count, and those beyond it
-    pub read-record : (i : ℕ) → i < getD b 1 0 → callbackAt (tableAt b) i ≡ recordAt b (recordStart i)
+    -- the place of each slot below count
+    pub record-by : (i : ℕ) → i < getD b 1 0 → callbackAt (tableAt b) i ≡ recordAt b (recordStart i)
     unfolding tableAt
-    read-record i l = placed-in (λ j. recordAt b (recordStart j)) (getD b 1 0) i (read-passed .head .few) l
+    record-by i l = placed-in (λ j. recordAt b (recordStart j)) (getD b 1 0) i (passed-by .head .few) l
 
-    pub read-blank : (i : ℕ) → getD b 1 0 ≤ i → i < places → callbackAt (tableAt b) i ≡ blank
-    unfolding tableAt
-    read-blank i l h = placed-out (λ j. recordAt b (recordStart j)) (getD b 1 0) i l h
+-- ---- by all rules
+
+abbrev pub ReadPassed : List ℕ → Type 0
+ReadPassed = ReadPassedBy true
+
+module _ (b : List ℕ) (ok : (readFault b) .number ≡ 0) where
+  pub read-passed : ReadPassed b
+  read-passed = passed-by true b ok
+
+  -- a record's spare bytes
+  pub read-spare : (i : ℕ) → i < getD b 1 0 → spareAt b (recordStart i) ≡ false
+  unfolding tableAt fieldsAt numbers sparesAt
+  read-spare i l = sym (gather-in (λ i. spareAt b (recordStart i)) (getD b 1 0) i l) ∙ read-passed .body .records i l .clear
+
+  pub read-table : (readOf b) .table ≡ tableAt b
+  read-table = table-by true b ok
+
+  pub read-accepted : faultOf (tableAt b) ≡ accepted
+  unfolding tableAt fieldsAt numbers
+  read-accepted = fault-accepted (tableAt b) (not (headerClear b)) (sparesAt b) (read-passed .head-zero) (read-passed .body)
+
+  pub read-sound : Sound (tableAt b)
+  read-sound = sound-read true b ok
+
+  -- the place of each slot below count, and those beyond it
+  pub read-record : (i : ℕ) → i < getD b 1 0 → callbackAt (tableAt b) i ≡ recordAt b (recordStart i)
+  read-record = record-by true b ok
+
+  pub read-blank : (i : ℕ) → getD b 1 0 ≤ i → i < places → callbackAt (tableAt b) i ≡ blank
+  unfolding tableAt
+  read-blank i l h = placed-out (λ j. recordAt b (recordStart j)) (getD b 1 0) i l h

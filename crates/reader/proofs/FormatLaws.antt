@@ -16,9 +16,9 @@ use Rattle.table.specs.declared.Refusal.{Refusal}
 use Rattle.table.specs.declared.Table.{Table}
 use Rattle.table.specs.Values.{refuse, tableOf, headless}
 use Rattle.table.proofs.RefusalLaws.{first-refused, first-passed}
-use Rattle.rules.specs.Rules.{headFault, bodyFault}
+use Rattle.rules.specs.Rules.{headFault, bodyBy}
 use Rattle.reader.specs.declared.Reading.{Reading}
-use Rattle.reader.specs.Format.{headerClear, spareAt, recordStart, recordsTo, tableAt, sparesAt, wholeFault, readFault, refusedReading, readOf}
+use Rattle.reader.specs.Format.{headerClear, spareAt, recordStart, recordsTo, tableAt, sparesAt, wholeBy, readFaultBy, refusedReading, readBy}
 
 -- ---- spare bytes, as runs that end before byte k + 4, k + 12 and k + 32
 
@@ -54,39 +54,39 @@ module _ (b : List ℕ) (i : ℕ) (t : Table) (so : t ≡ headless (recordsTo b 
   table-whole q p h z f eq ep eh ez =
       simp (eq, ep, eh, ez) (ap (tableOf (getD b 0 0 ∷ getD b 1 0 ∷ []) (get 2 b 2 ∷ get 2 b 4 ∷ get 2 b 6 ∷ get 2 b 8 ∷ [])) (ap (λ (u : Table). u .callbacks) so ∙ ap (recordsTo b) f))
 
--- ---- the reader
+-- ---- the reader, with 24 tested or not
 
-module _ (b : List ℕ) where
-  pub read-short : length b < headerLength → readFault b ≡ refuse shortHeader 0
-  unfolding readFault
-  read-short h = rw (lt-ltb (length b) headerLength h, readFault)
+module _ (sums : Bool) (b : List ℕ) where
+  pub read-short : length b < headerLength → readFaultBy sums b ≡ refuse shortHeader 0
+  unfolding readFaultBy
+  read-short h = rw (lt-ltb (length b) headerLength h, readFaultBy)
 
   module _ (long : headerLength ≤ length b) (r : Refusal) (head : r ≡ headFault (getD b 0 0) (getD b 1 0)) where
-    pub read-head : r .number ≢ 0 → readFault b ≡ r
-    unfolding readFault
-    read-head h = rw (le-ltb (length b) headerLength long, readFault, ← head) (first-refused r _ h)
+    pub read-head : r .number ≢ 0 → readFaultBy sums b ≡ r
+    unfolding readFaultBy
+    read-head h = rw (le-ltb (length b) headerLength long, readFaultBy, ← head) (first-refused r _ h)
 
     module _ (ok : r .number ≡ 0) where
-      rest : readFault b ≡ wholeFault b
-      unfolding readFault
-      rest = rw (le-ltb (length b) headerLength long, readFault, ← head) (first-passed r _ ok)
+      rest : readFaultBy sums b ≡ wholeBy sums b
+      unfolding readFaultBy
+      rest = rw (le-ltb (length b) headerLength long, readFaultBy, ← head) (first-passed r _ ok)
 
-      pub read-off : length b ≢ recordStart (getD b 1 0) → readFault b ≡ refuse wrongLength 0
-      unfolding wholeFault
+      pub read-off : length b ≢ recordStart (getD b 1 0) → readFaultBy sums b ≡ refuse wrongLength 0
+      unfolding wholeBy
       read-off h = rest ∙ rw (ne-eqb (length b) (recordStart (getD b 1 0)) h)
 
       pub read-whole : length b ≡ recordStart (getD b 1 0) → (z : Bool) → z ≡ headerClear b → (s : ℕ) → s ≡ sparesAt b → (t : Table) → t ≡ tableAt b
-          → readFault b ≡ bodyFault (not z) s t
-      unfolding wholeFault
+          → readFaultBy sums b ≡ bodyBy sums (not z) s t
+      unfolding wholeBy
       read-whole e z clear s spares t values = rest ∙ rw (clear, spares, values, eq-eqb (length b) (recordStart (getD b 1 0)) e)
 
-  module _ (r : Refusal) (so : readFault b ≡ r) where
-    by-number : readOf b ≡ elim (eqb (r .number) 0) as (λ _. Reading) [ true ↦ record { refusal = r; table = tableAt b } | false ↦ refusedReading r ]
-    unfolding readOf
+  module _ (r : Refusal) (so : readFaultBy sums b ≡ r) where
+    by-number : readBy sums b ≡ elim (eqb (r .number) 0) as (λ _. Reading) [ true ↦ record { refusal = r; table = tableAt b } | false ↦ refusedReading r ]
+    unfolding readBy
     by-number = ap (λ (x : Refusal). elim (eqb (x .number) 0) as (λ _. Reading) [ true ↦ record { refusal = x; table = tableAt b } | false ↦ refusedReading x ]) so
 
-    pub reading-refused : r .number ≢ 0 → readOf b ≡ refusedReading r
+    pub reading-refused : r .number ≢ 0 → readBy sums b ≡ refusedReading r
     reading-refused h = by-number ∙ ap (λ (x : Bool). elim x as (λ _. Reading) [ true ↦ record { refusal = r; table = tableAt b } | false ↦ refusedReading r ]) (ne-eqb (r .number) 0 h)
 
-    pub reading-whole : r .number ≡ 0 → readOf b ≡ record { refusal = r; table = tableAt b }
+    pub reading-whole : r .number ≡ 0 → readBy sums b ≡ record { refusal = r; table = tableAt b }
     reading-whole e = by-number ∙ ap (λ (x : Bool). elim x as (λ _. Reading) [ true ↦ record { refusal = r; table = tableAt b } | false ↦ refusedReading r ]) (eq-eqb (r .number) 0 e)

@@ -29,7 +29,7 @@ use Rattle.rules.specs.Rules.{faultOf}
 use Rattle.rules.specs.Parts.{Sound}
 use Rattle.rules.proofs.Passed.{head-accepted, body-accepted, fault-passed}
 use Rattle.rules.proofs.Sound.{sound, ticks-le, entries-le}
-use Rattle.reader.specs.Format.{headerFields, recordFields, fieldOf, headerClear, recordAt, spareAt, recordStart, recordsTo, tableAt, sparesAt, wholeFault, readFault}
+use Rattle.reader.specs.Format.{headerFields, recordFields, fieldOf, headerClear, recordAt, spareAt, recordStart, recordsTo, tableAt, sparesAt, wholeBy, readFault, readFaultBy}
 use Rattle.reader.specs.Written.{headerNumbers, recordNumbers, recordBytes, recordsBytes, written}
 use Rattle.reader.proofs.Accepted.{read-passed, read-spare, read-accepted, read-record, read-blank}
 
@@ -43,11 +43,11 @@ pub record Writable (t : Table) : Type 0 where
 -- bytes that hold a table without faults, and nothing else, are accepted
 accepted-by : (t : Table) → (faultOf t) .number ≡ 0 → (b : List ℕ) → length b ≡ recordStart (t .count) → getD b 0 0 ≡ t .edition → getD b 1 0 ≡ t .count
     → headerClear b ≡ true → sparesAt b ≡ 0 → tableAt b ≡ t → readFault b ≡ accepted
-unfolding readFault wholeFault
+unfolding readFaultBy wholeBy
 accepted-by t ok b n e k z s v =
     let p = fault-passed t ok in
-    simp (readFault, le-ltb (length b) headerLength (omega arith), e, k, eq-eqb (length b) (recordStart (t .count)) n, z, s, v, head-accepted (t .edition) (t .count) (p .0))
-    (body-accepted false 0 t (p .1))
+    simp (readFaultBy, le-ltb (length b) headerLength (omega arith), e, k, eq-eqb (length b) (recordStart (t .count)) n, z, s, v, head-accepted (t .edition) (t .count) (p .0))
+    (body-accepted true false 0 t (p .1))
 
 -- ---- written, then read
 

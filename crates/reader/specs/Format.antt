@@ -1,6 +1,7 @@
 -- A table's bytes and the reader (document 01, 'The callback table' and 'Where each refusal is tested').
 -- headerFields, recordFields: the fields of a header and of a record in their order. recordAt, tableAt: the values that bytes hold.
 -- headerClear: the header's spare bytes are zero. spareAt, sparesAt: records with one that is not. readFault, readOf: the reader.
+-- wholeBy, readFaultBy, readBy: the same with 24 tested or not, since the program of document 02's U7 reads tables as before it.
 use mathlib.Core.Bool.{Bool, true, false, cond, not, _&&_}
 use mathlib.Core.List.{List, [], _∷_}
 use Prim.Native.Nat.{ℕ, _+_, _*_}
@@ -13,7 +14,7 @@ use Rattle.table.specs.declared.Callback.{Callback}
 use Rattle.table.specs.declared.Refusal.{Refusal}
 use Rattle.table.specs.declared.Table.{Table}
 use Rattle.table.specs.Values.{refuse, orElse, callbackOf, tableOf, placed, blankTable}
-use Rattle.rules.specs.Rules.{headFault, bodyFault}
+use Rattle.rules.specs.Rules.{headFault, bodyBy}
 use Rattle.reader.specs.declared.Reading.{Reading}
 
 -- edition and count; Q, P, H and Z; six spare bytes
@@ -56,27 +57,33 @@ tableAt b = let vs : List (List ℕ) = fieldsAt headerFields b 0 0 in tableOf (f
 unfoldable pub sparesAt : List ℕ → ℕ
 sparesAt b = gather (λ i. spareAt b (recordStart i)) (getD b 1 0)
 
--- 4, then 5 to 14 and 22
-unfoldable pub wholeFault : List ℕ → Refusal
-wholeFault b =
-    cond (not (eqb (length b) (recordStart (getD b 1 0)))) (refuse wrongLength 0) (bodyFault (not (headerClear b)) (sparesAt b) (tableAt b))
+-- 4, then 5 to 14, 22 and 24
+unfoldable pub wholeBy : Bool → List ℕ → Refusal
+wholeBy sums b =
+    cond (not (eqb (length b) (recordStart (getD b 1 0)))) (refuse wrongLength 0) (bodyBy sums (not (headerClear b)) (sparesAt b) (tableAt b))
 
--- the refusal of a table's bytes, 1 to 14 and 22 in their order
-unfoldable pub readFault : List ℕ → Refusal
-readFault b =
+-- the refusal of a table's bytes, 1 to 14, 22 and 24 in their order; `sums` says that 24 is tested
+unfoldable pub readFaultBy : Bool → List ℕ → Refusal
+readFaultBy sums b =
     elim (ltb (length b) headerLength) [
       | true ↦ refuse shortHeader 0
-      | false ↦ orElse (headFault (getD b 0 0) (getD b 1 0)) (wholeFault b)
+      | false ↦ orElse (headFault (getD b 0 0) (getD b 1 0)) (wholeBy sums b)
     ]
+
+abbrev pub readFault : List ℕ → Refusal
+readFault = readFaultBy true
 
 -- a refusal beside a blank table
 abbrev pub refusedReading : Refusal → Reading
 refusedReading r = record { refusal = r; table = blankTable }
 
 -- the reader: the table, or the refusal beside a blank table
-unfoldable pub readOf : List ℕ → Reading
-readOf b =
-    elim (eqb ((readFault b) .number) 0) [
-      | true ↦ record { refusal = readFault b; table = tableAt b }
-      | false ↦ refusedReading (readFault b)
+unfoldable pub readBy : Bool → List ℕ → Reading
+readBy sums b =
+    elim (eqb ((readFaultBy sums b) .number) 0) [
+      | true ↦ record { refusal = readFaultBy sums b; table = tableAt b }
+      | false ↦ refusedReading (readFaultBy sums b)
     ]
+
+abbrev pub readOf : List ℕ → Reading
+readOf = readBy true

@@ -1,8 +1,8 @@
 -- Two tables of which the rules see the same have the same fault. Assumes nothing.
 -- Alike: the same numbers in the header, and records that are judged alike and are the same where they pass. What stands beyond n is looked at by no rule.
--- links-alike, body-alike, fault-alike: 11 to 14; 5 to 14 and 22; all of them, where 2 and 3 are judged alike.
+-- links-alike, body-alike, fault-alike: 11 to 14; 5 to 14, 22 and 24; all of them, where 2 and 3 are judged alike.
 use mathlib.Core.Path.{_≡_, refl, ap, ap₂, _∙_}
-use mathlib.Core.Bool.{Bool, false, cond, _&&_}
+use mathlib.Core.Bool.{Bool, true, false, cond, _&&_}
 use mathlib.Core.List.{List}
 use Prim.Native.Nat.{ℕ, zero, suc, _+_, _≤_, _<_}
 use native.Mathlib.Omega.{arith}
@@ -22,7 +22,7 @@ use Rattle.table.specs.Walk.{walk}
 use Rattle.table.specs.Links.{linked, named, isHead, onLoop}
 use Rattle.table.proofs.RefusalLaws.{first-alike}
 use Rattle.link_rules.specs.LinkRules.{arrivalsFault, linksFault}
-use Rattle.rules.specs.Rules.{headFault, supplyFault, recordFault, recordsFrom, bodyFault, faultOf}
+use Rattle.rules.specs.Rules.{headFault, supplyFault, recordFault, recordsBy, bodyFault, bodyBy, faultOf}
 use Rattle.rules.proofs.Passed.{HeadPassed, head-passed, RecordPassed, records-passed}
 
 -- ---- the links of tables with the same records, none of which names a callback beyond n
@@ -77,8 +77,8 @@ pub record Alike (t u : Table) : Type 0 where
   pub same : (i : ℕ) (spare : Bool) → i < t .count → RecordPassed (t .count) (callbackAt t i) spare → callbackAt t i ≡ callbackAt u i
 
 module _ (t u : Table) (a : Alike t u) where
-  records-alike : (k i : ℕ) → i + k ≤ t .count → recordsFrom 0 t k i ≡ recordsFrom 0 u k i
-  unfolding recordsFrom
+  records-alike : (k i : ℕ) → i + k ≤ t .count → recordsBy true 0 t k i ≡ recordsBy true 0 u k i
+  unfolding recordsBy
   records-alike zero i h = refl
   records-alike (suc k) i h =
       ap₂ (λ (x : ℕ) (r : Refusal). elim x as (λ _. Refusal) [ zero ↦ r | suc y ↦ refuse (suc y) (suc i) ])
@@ -86,13 +86,13 @@ module _ (t u : Table) (a : Alike t u) where
       (records-alike k (suc i) (omega arith))
 
   -- records and links
-  rest-alike : orElse (recordsFrom 0 t (t .count) 0) (linksFault t) ≡ orElse (recordsFrom 0 u (u .count) 0) (linksFault u)
+  rest-alike : orElse (recordsBy true 0 t (t .count) 0) (linksFault t) ≡ orElse (recordsBy true 0 u (u .count) 0) (linksFault u)
   rest-alike =
-      first-alike _ _ _ _ (records-alike (t .count) 0 (omega arith) ∙ ap (λ (n : ℕ). recordsFrom 0 u n 0) (a .count))
-      (λ e. let p = records-passed 0 t e in links-alike t u (a .count) (λ i l. a .same i (has 0 i) l (p i l)) (λ i l. p i l .next))
+      first-alike _ _ _ _ (records-alike (t .count) 0 (omega arith) ∙ ap (λ (n : ℕ). recordsBy true 0 u n 0) (a .count))
+      (λ e. let p = records-passed true 0 t e in links-alike t u (a .count) (λ i l. a .same i (has 0 i) l (p i l)) (λ i l. p i l .next))
 
   pub body-alike : bodyFault false 0 t ≡ bodyFault false 0 u
-  unfolding bodyFault
+  unfolding bodyBy
   body-alike =
       ap₂ (λ (v : List ℕ) (r : Refusal). cond (supplyFault (getD v 0 0) (getD v 1 0)) (refuse Numbers.wrongSupply 0)
       (cond (ltb Numbers.longest (getD v 3 0)) (refuse Numbers.wrongDelay 0)

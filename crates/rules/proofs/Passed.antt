@@ -1,5 +1,6 @@
 -- What a table without faults has passed, test by test. Assumes nothing.
--- HeadPassed, RecordPassed, LinksPassed, BodyPassed: what 2 and 3, one record, 11 to 14, and 5 to 14 with 22 leave; head-passed, record-passed, links-passed, body-passed.
+-- HeadPassed, RecordPassed, LinksPassed, BodyPassed: what 2 and 3, one record, 11 to 14, and 5 to 14 with 22 and 24 leave; head-passed, record-passed, links-passed, body-passed.
+-- RecordPassedBy, BodyPassedBy: the same with 24 tested or not.
 -- head-accepted, body-accepted: what has passed is accepted with index 0. records-known: no record names a callback beyond n. fault-passed, fault-accepted: of a table given as values.
 use mathlib.Core.Path.{_≡_, refl, ap, _∙_, subst}
 use mathlib.Core.Logic.{_⊎_, inl, inr, _≢_}
@@ -19,7 +20,7 @@ use Rattle.table.specs.declared.Refusal.{Refusal}
 use Rattle.table.specs.declared.Table.{Table}
 use Rattle.table.specs.Values.{refuse, accepted, callbackAt, kindOf, nextOf}
 use Rattle.table.specs.Links.{named, isHead, onLoop}
-use Rattle.rules.specs.Rules.{headFault, supplyFault, entriesFault, unusedFault, recordFault, recordsFrom, bodyFault, faultOf}
+use Rattle.rules.specs.Rules.{headFault, supplyFault, entriesFault, sumsFault, unusedFault, recordFaultBy, recordsBy, bodyFault, bodyBy, faultOf}
 use Rattle.link_rules.specs.Parts.{namesKnown}
 use Rattle.ranges.specs.Every.{within}
 use Rattle.link_rules.specs.LinkRules.{arrivalsFault, linksFault}
@@ -60,41 +61,47 @@ head-accepted edition count p = simp (le-leb Numbers.editionOne edition (p .edit
 
 -- ---- one record
 
-pub record RecordPassed (n : ℕ) (c : Callback) (spare : Bool) : Type 0 where
+pub record RecordPassedBy (sums : Bool) (n : ℕ) (c : Callback) (spare : Bool) : Type 0 where
   pub kind : within Numbers.timer Numbers.client (c .kind) ≡ true
   pub next : c .next ≤ n
   pub entries : entriesFault c ≡ false
+  pub below-sums : (sums && sumsFault c) ≡ false
   pub unused : unusedFault c ≡ false
   pub clear : spare ≡ false
 
-pub record-passed : (n : ℕ) (c : Callback) (spare : Bool) → recordFault n c spare ≡ 0 → RecordPassed n c spare
-unfolding recordFault
-record-passed n c spare e =
+abbrev pub RecordPassed : ℕ → Callback → Bool → Type 0
+RecordPassed = RecordPassedBy true
+
+pub record-passed : (sums : Bool) (n : ℕ) (c : Callback) (spare : Bool) → recordFaultBy sums n c spare ≡ 0 → RecordPassedBy sums n c spare
+unfolding recordFaultBy
+record-passed sums n c spare e =
     let one = cond-zero (not (within Numbers.timer Numbers.client (c .kind))) Numbers.wrongKind _ (λ z. omega arith) e in
     let two = cond-zero (ltb n (c .next)) Numbers.wrongNext _ (λ z. omega arith) (one .1) in
     let three = cond-zero (entriesFault c) Numbers.wrongEntries _ (λ z. omega arith) (two .1) in
-    let four = or-fails (unusedFault c) spare (cond-zero (unusedFault c || spare) Numbers.spareNotZero 0 (λ z. omega arith) (three .1) .0) in
+    let four = cond-zero (sums && sumsFault c) Numbers.aboveSum _ (λ z. omega arith) (three .1) in
+    let five = or-fails (unusedFault c) spare (cond-zero (unusedFault c || spare) Numbers.spareNotZero 0 (λ z. omega arith) (four .1) .0) in
     record {
       kind = not-false (within Numbers.timer Numbers.client (c .kind)) (one .0);
       next = ltb-false n (c .next) (two .0);
       entries = three .0;
-      unused = four .0;
-      clear = four .1;
+      below-sums = four .0;
+      unused = five .0;
+      clear = five .1;
     }
 
 -- ---- the records in turn
 
-module _ (spares : ℕ) (t : Table) where
+module _ (sums : Bool) (spares : ℕ) (t : Table) where
   abbrev fault : ℕ → ℕ
-  fault i = recordFault (t .count) (callbackAt t i) (has spares i)
+  fault i = recordFaultBy sums (t .count) (callbackAt t i) (has spares i)
 
-  records-zero : (k i : ℕ) → (recordsFrom spares t k i) .number ≡ 0 → (j : ℕ) → i ≤ j → j < i + k → fault j ≡ 0
-  unfolding recordsFrom
+  records-zero : (k i : ℕ) → (recordsBy sums spares t k i) .number ≡ 0 → (j : ℕ) → i ≤ j → j < i + k → fault j ≡ 0
+  unfolding recordsBy
   records-zero zero i e j l h = absurd (omega arith)
   records-zero (suc k) i e j l h = go (fault i) refl e (λ f m. records-zero k (suc i) f j m (omega arith))
     where
-      go : (x : ℕ) → fault i ≡ x → (elim x as (λ _. Refusal) [ zero ↦ recordsFrom spares t k (suc i) | suc y ↦ refuse (suc y) (suc i) ]) .number ≡ 0
-          → ((recordsFrom spares t k (suc i)) .number ≡ 0 → i < j → fault j ≡ 0) → fault j ≡ 0
+      go : (x : ℕ) → fault i ≡ x → (elim x as (λ _. Refusal) [ zero ↦ recordsBy sums spares t k (suc i) | suc y ↦ refuse (suc y) (suc i) ]) .number ≡ 0
+          → ((recordsBy sums spares t k (suc i)) .number ≡ 0 → i < j → fault j ≡ 0) → fault j ≡ 0
       go zero f z w = pick (eq-or-lt-of-le l)
         where
           pick : (i ≡ j) ⊎ (i < j) → fault j ≡ 0
@@ -102,25 +109,25 @@ module _ (spares : ℕ) (t : Table) where
           pick (inr m) = w z m
       go (suc y) f z w = absurd (omega arith)
 
-  pub records-passed : (recordsFrom spares t (t .count) 0) .number ≡ 0 → (i : ℕ) → i < t .count → RecordPassed (t .count) (callbackAt t i) (has spares i)
-  records-passed e i l = record-passed (t .count) (callbackAt t i) (has spares i) (records-zero (t .count) 0 e i (omega arith) (omega arith))
+  pub records-passed : (recordsBy sums spares t (t .count) 0) .number ≡ 0 → (i : ℕ) → i < t .count → RecordPassedBy sums (t .count) (callbackAt t i) (has spares i)
+  records-passed e i l = record-passed sums (t .count) (callbackAt t i) (has spares i) (records-zero (t .count) 0 e i (omega arith) (omega arith))
 
-  pub records-known : (recordsFrom spares t (t .count) 0) .number ≡ 0 → namesKnown t ≡ true
+  pub records-known : (recordsBy sums spares t (t .count) 0) .number ≡ 0 → namesKnown t ≡ true
   unfolding namesKnown
   records-known e = every-all (λ i. leb (nextOf t i) (t .count)) (t .count) (λ i l. le-leb _ _ (records-passed e i l .next))
 
   -- records that pass are accepted
-  records-all : (k i : ℕ) → ((j : ℕ) → i ≤ j → j < i + k → RecordPassed (t .count) (callbackAt t j) (has spares j)) → recordsFrom spares t k i ≡ accepted
-  unfolding recordsFrom recordFault
+  records-all : (k i : ℕ) → ((j : ℕ) → i ≤ j → j < i + k → RecordPassedBy sums (t .count) (callbackAt t j) (has spares j)) → recordsBy sums spares t k i ≡ accepted
+  unfolding recordsBy recordFaultBy
   records-all zero i h = refl
   records-all (suc k) i h =
-      ap (λ (x : ℕ). elim x as (λ _. Refusal) [ zero ↦ recordsFrom spares t k (suc i) | suc y ↦ refuse (suc y) (suc i) ]) right
+      ap (λ (x : ℕ). elim x as (λ _. Refusal) [ zero ↦ recordsBy sums spares t k (suc i) | suc y ↦ refuse (suc y) (suc i) ]) right
       ∙ records-all k (suc i) (λ j l m. h j (omega arith) (omega arith))
     where
       right : fault i ≡ 0
       right =
           let p = h i (omega arith) (omega arith) in
-          simp (p .kind, le-ltb (t .count) (nextOf t i) (p .next), p .entries, p .unused, p .clear)
+          simp (p .kind, le-ltb (t .count) (nextOf t i) (p .next), p .entries, p .below-sums, p .unused, p .clear)
 
 -- ---- the links
 
@@ -145,37 +152,40 @@ links-accepted t l = lowest-passed _ _ _ (l .once) ∙ lowest-passed _ _ _ (l .t
 
 -- ---- the body
 
-pub record BodyPassed (spare : Bool) (spares : ℕ) (t : Table) : Type 0 where
+pub record BodyPassedBy (sums spare : Bool) (spares : ℕ) (t : Table) : Type 0 where
   pub clear : spare ≡ false
   pub supply : supplyFault (t .budget) (t .period) ≡ false
   pub delay : t .delay ≤ Numbers.longest
   pub horizon : t .horizon ≤ Numbers.longest
-  pub records : (i : ℕ) → i < t .count → RecordPassed (t .count) (callbackAt t i) (has spares i)
+  pub records : (i : ℕ) → i < t .count → RecordPassedBy sums (t .count) (callbackAt t i) (has spares i)
   pub links : LinksPassed t
 
-module _ (spare : Bool) (spares : ℕ) (t : Table) where
-  pub body-passed : (bodyFault spare spares t) .number ≡ 0 → BodyPassed spare spares t
-  unfolding bodyFault
+abbrev pub BodyPassed : Bool → ℕ → Table → Type 0
+BodyPassed = BodyPassedBy true
+
+module _ (sums spare : Bool) (spares : ℕ) (t : Table) where
+  pub body-passed : (bodyBy sums spare spares t) .number ≡ 0 → BodyPassedBy sums spare spares t
+  unfolding bodyBy
   body-passed e =
       let one = test-zero spare Numbers.spareNotZero 0 _ (λ z. omega arith) e in
       let two = test-zero (supplyFault (t .budget) (t .period)) Numbers.wrongSupply 0 _ (λ z. omega arith) (one .1) in
       let three = test-zero (ltb Numbers.longest (t .delay)) Numbers.wrongDelay 0 _ (λ z. omega arith) (two .1) in
       let four = test-zero (ltb Numbers.longest (t .horizon)) Numbers.wrongHorizon 0 _ (λ z. omega arith) (three .1) in
-      let rest = both-passed (recordsFrom spares t (t .count) 0) (linksFault t) (four .1) in
+      let rest = both-passed (recordsBy sums spares t (t .count) 0) (linksFault t) (four .1) in
       record {
         clear = one .0;
         supply = two .0;
         delay = ltb-false Numbers.longest (t .delay) (three .0);
         horizon = ltb-false Numbers.longest (t .horizon) (four .0);
-        records = records-passed spares t (rest .0);
+        records = records-passed sums spares t (rest .0);
         links = links-passed t (rest .1);
       }
 
-  pub body-accepted : BodyPassed spare spares t → bodyFault spare spares t ≡ accepted
-  unfolding bodyFault
+  pub body-accepted : BodyPassedBy sums spare spares t → bodyBy sums spare spares t ≡ accepted
+  unfolding bodyBy
   body-accepted p =
       simp (p .clear, p .supply, le-ltb Numbers.longest (t .delay) (p .delay), le-ltb Numbers.longest (t .horizon) (p .horizon))
-      (first-passed _ _ (ap numberOf (records-all spares t (t .count) 0 (λ j l m. p .records j (omega arith)))) ∙ links-accepted t (p .links))
+      (first-passed _ _ (ap numberOf (records-all sums spares t (t .count) 0 (λ j l m. p .records j (omega arith)))) ∙ links-accepted t (p .links))
 
 -- ---- a table given as values
 
@@ -184,16 +194,16 @@ module _ (t : Table) where
   unfolding faultOf
   fault-passed ok =
       let b = both-passed (headFault (t .edition) (t .count)) (bodyFault false 0 t) ok in
-      (head-passed (t .edition) (t .count) (b .0), body-passed false 0 t (b .1))
+      (head-passed (t .edition) (t .count) (b .0), body-passed true false 0 t (b .1))
 
   -- a table whose bytes have passed has no fault
   pub fault-accepted : (spare : Bool) (spares : ℕ) → (headFault (t .edition) (t .count)) .number ≡ 0 → BodyPassed spare spares t → faultOf t ≡ accepted
   unfolding faultOf
-  fault-accepted spare spares h p = first-passed _ _ h ∙ body-accepted false 0 t (record {
+  fault-accepted spare spares h p = first-passed _ _ h ∙ body-accepted true false 0 t (record {
     clear = refl;
     supply = p .supply;
     delay = p .delay;
     horizon = p .horizon;
-    records = λ i l. (let r = p .records i l in record { kind = r .kind; next = r .next; entries = r .entries; unused = r .unused; clear = has-zero i });
+    records = λ i l. (let r = p .records i l in record { kind = r .kind; next = r .next; entries = r .entries; below-sums = r .below-sums; unused = r .unused; clear = has-zero i });
     links = p .links;
   })

@@ -1,9 +1,10 @@
 -- The rules of one record, and of the records in turn. Assumes nothing.
--- cost-none, cost-many, cost-miss, cost-all: rule 10. unused-miss, unused-all: rule 5, the unused entries. records-stop, records-next, records-end: the records in turn.
+-- cost-none, cost-many, cost-miss, cost-all: rule 10. joins-at, joins-not, joins-well: rule 24, of one pair. unused-miss, unused-all: rule 5, the unused entries. records-stop, records-next, records-end: the records in turn.
 -- first-refused, first-passed, both-passed: the first of two refusals. lowest-refused, lowest-passed, lowest-zero: the lowest callback that is refused.
 use mathlib.Core.Path.{_≡_, sym, ap, ap₂, _∙_}
 use mathlib.Core.Logic.{_≢_}
 use mathlib.Core.Bool.{Bool, true, false, not, _&&_, _||_, and-false}
+use mathlib.Core.List.{List}
 use Prim.Native.Nat.{ℕ, zero, suc, _+_, _-_, _≤_, _<_}
 use native.Mathlib.Numerals.{add-one}
 use native.Mathlib.Omega.{arith}
@@ -12,6 +13,7 @@ use lib.ListN.{getD}
 use borrow.Author.Tests.{ne-eqb, lt-ltb, le-ltb, le-leb, lt-leb}
 use Rattle.masks.specs.Mask.{has}
 use Rattle.curves.specs.Cost.{entry}
+use Rattle.curves.proofs.CostLaws.{entry-at}
 use Rattle.ranges.specs.Every.{every}
 use Rattle.ranges.proofs.EveryLaws.{every-all, every-miss}
 use Rattle.table.specs.declared.Callback.{Callback}
@@ -19,7 +21,7 @@ use Rattle.table.specs.declared.Refusal.{Refusal}
 use Rattle.table.specs.declared.Table.{Table}
 use Rattle.numbers.specs.Numbers.{entryPlaces, longest}
 use Rattle.table.specs.Values.{refuse, accepted, callbackAt}
-use Rattle.rules.specs.Rules.{entriesFault, unusedFault, recordFault, recordsFrom}
+use Rattle.rules.specs.Rules.{entriesFault, joins, unusedFault, recordFaultBy, recordsBy}
 
 -- ---- rule 10: E(k + 1) is above E(k), and at most 60,000
 
@@ -57,6 +59,19 @@ module _ (c : Callback) where
   pub rises-well : (k : ℕ) → entry (c .entries) k < entry (c .entries) (suc k) → entry (c .entries) (suc k) ≤ longest → rises c k ≡ true
   rises-well k l h = simp (lt-ltb _ _ l, le-leb _ _ h)
 
+-- ---- rule 24: E(k + 1) is at most the sum of E(j + 1) and E(k - j)
+
+module _ (es : List ℕ) (k j : ℕ) (l : j < k) where
+  -- the second entry, as the code reads it
+  pub joins-at : joins es k j ≡ leb (getD es k 0) (getD es j 0 + getD es (k - j - 1) 0)
+  joins-at = ap (λ (x : ℕ). leb (getD es k 0) (getD es j 0 + x)) (entry-at es (k - j) (omega arith))
+
+  pub joins-not : getD es j 0 + getD es (k - j - 1) 0 < getD es k 0 → joins es k j ≡ false
+  joins-not h = joins-at ∙ lt-leb _ _ h
+
+  pub joins-well : getD es k 0 ≤ getD es j 0 + getD es (k - j - 1) 0 → joins es k j ≡ true
+  joins-well h = joins-at ∙ le-leb _ _ h
+
 -- ---- rule 5: an entry beyond m is zero
 
 abbrev pub blank-beyond : Callback → ℕ → Bool
@@ -75,28 +90,28 @@ module _ (c : Callback) where
 
 -- ---- the records in turn
 
-pub records-start : (spares : ℕ) (t : Table) (n : ℕ) → recordsFrom spares t (n - 0) 0 ≡ recordsFrom spares t n 0
-records-start spares t n = ap (λ (k : ℕ). recordsFrom spares t k 0) (omega arith)
+pub records-start : (sums : Bool) (spares : ℕ) (t : Table) (n : ℕ) → recordsBy sums spares t (n - 0) 0 ≡ recordsBy sums spares t n 0
+records-start sums spares t n = ap (λ (k : ℕ). recordsBy sums spares t k 0) (omega arith)
 
-module _ (spares : ℕ) (t : Table) (n i : ℕ) where
-  pub records-end : n ≤ i → recordsFrom spares t (n - i) i ≡ accepted
-  unfolding recordsFrom
-  records-end h = let z : n - i ≡ 0 = omega arith in ap (λ (k : ℕ). recordsFrom spares t k i) z
+module _ (sums : Bool) (spares : ℕ) (t : Table) (n i : ℕ) where
+  pub records-end : n ≤ i → recordsBy sums spares t (n - i) i ≡ accepted
+  unfolding recordsBy
+  records-end h = let z : n - i ≡ 0 = omega arith in ap (λ (k : ℕ). recordsBy sums spares t k i) z
 
-  module _ (l : i < n) (f : ℕ) (known : f ≡ recordFault (t .count) (callbackAt t i) (has spares i)) where
-    one-more : recordsFrom spares t (n - i) i ≡ elim f [ zero ↦ recordsFrom spares t (n - (i + 1)) (i + 1) | suc x ↦ refuse (suc x) (i + 1) ]
-    unfolding recordsFrom
+  module _ (l : i < n) (f : ℕ) (known : f ≡ recordFaultBy sums (t .count) (callbackAt t i) (has spares i)) where
+    one-more : recordsBy sums spares t (n - i) i ≡ elim f [ zero ↦ recordsBy sums spares t (n - (i + 1)) (i + 1) | suc x ↦ refuse (suc x) (i + 1) ]
+    unfolding recordsBy
     one-more =
         let e : n - i ≡ suc (n - (i + 1)) = omega arith in
-        ap (λ (k : ℕ). recordsFrom spares t k i) e
-        ∙ ap₂ (λ (x j : ℕ). elim x as (λ _. Refusal) [ zero ↦ recordsFrom spares t (n - (i + 1)) j | suc y ↦ refuse (suc y) j ]) (sym known) (sym (add-one i))
+        ap (λ (k : ℕ). recordsBy sums spares t k i) e
+        ∙ ap₂ (λ (x j : ℕ). elim x as (λ _. Refusal) [ zero ↦ recordsBy sums spares t (n - (i + 1)) j | suc y ↦ refuse (suc y) j ]) (sym known) (sym (add-one i))
 
-    pub records-next : f ≡ 0 → recordsFrom spares t (n - i) i ≡ recordsFrom spares t (n - (i + 1)) (i + 1)
+    pub records-next : f ≡ 0 → recordsBy sums spares t (n - i) i ≡ recordsBy sums spares t (n - (i + 1)) (i + 1)
     records-next z = one-more ∙ rw z
 
-    pub records-stop : f ≢ 0 → recordsFrom spares t (n - i) i ≡ refuse f (i + 1)
+    pub records-stop : f ≢ 0 → recordsBy sums spares t (n - i) i ≡ refuse f (i + 1)
     records-stop h =
         let e : f ≡ suc (f - 1) = omega arith in
         one-more
-        ∙ ap (λ (x : ℕ). elim x as (λ _. Refusal) [ zero ↦ recordsFrom spares t (n - (i + 1)) (i + 1) | suc y ↦ refuse (suc y) (i + 1) ]) e
+        ∙ ap (λ (x : ℕ). elim x as (λ _. Refusal) [ zero ↦ recordsBy sums spares t (n - (i + 1)) (i + 1) | suc y ↦ refuse (suc y) (i + 1) ]) e
         ∙ ap (λ (x : ℕ). refuse x (i + 1)) (sym e)

@@ -1,4 +1,5 @@
 -- What holds of every table without faults: sound t, from (faultOf t) .number ≡ 0. ticks-le, entries-le: its numbers fit their bytes. Assumes nothing.
+-- sound-by: the same of a table that has passed with 24 tested or not. cost-count, cost-entry: what 10 leaves of m and the entries.
 use mathlib.Core.Path.{_≡_, refl, sym, ap, ap₂, _∙_}
 use mathlib.Core.Logic.{_⊎_, inl, inr}
 use mathlib.Core.Bool.{Bool, true, false, not, _&&_, _||_}
@@ -26,7 +27,7 @@ use Rattle.rules.specs.Rules.{supplyFault, entriesFault, faultOf, unused
 use Rattle.rules.specs.Parts.{Sound}
 use Rattle.rules.proofs.RulesLaws.{rises}
 use Rattle.link_rules.proofs.Names.{names-once, off-loop}
-use Rattle.rules.proofs.Passed.{HeadPassed, BodyPassed, fault-passed, RecordPassed}
+use Rattle.rules.proofs.Passed.{HeadPassed, BodyPassedBy, fault-passed, RecordPassed}
 use Rattle.link_rules.specs.LinkRules.{arrivalsFault}
 
 -- ---- the tests, read back
@@ -50,10 +51,10 @@ module _ (c : Callback) (ok : entriesFault c ≡ false) where
   unfolding entriesFault
   both-hold = and-holds (within 1 entryPlaces (c .used)) (every (c .used) (rises c)) (not-false (within 1 entryPlaces (c .used) && every (c .used) (rises c)) ok)
 
-  cost-count : (1 ≤ c .used) × (c .used ≤ entryPlaces)
+  pub cost-count : (1 ≤ c .used) × (c .used ≤ entryPlaces)
   cost-count = within-passed 1 entryPlaces (c .used) (both-hold .0)
 
-  cost-entry : (k : ℕ) → k < c .used → (entry (c .entries) k < entry (c .entries) (suc k)) × (entry (c .entries) (suc k) ≤ longest)
+  pub cost-entry : (k : ℕ) → k < c .used → (entry (c .entries) k < entry (c .entries) (suc k)) × (entry (c .entries) (suc k) ≤ longest)
   cost-entry k l =
       let b = and-holds (ltb (entry (c .entries) k) (entry (c .entries) (suc k))) (leb (entry (c .entries) (suc k)) longest) (every-at (rises c) (c .used) (both-hold .1) k l) in
       (ltb-true (entry (c .entries) k) (entry (c .entries) (suc k)) (b .0), leb-true (entry (c .entries) (suc k)) longest (b .1))
@@ -118,8 +119,8 @@ module _ (t : Table) where
 
 -- ---- all of it
 
-pub sound : (t : Table) → (faultOf t) .number ≡ 0 → Sound t
-sound t ok =
+pub sound-by : (sums spare : Bool) (spares : ℕ) (t : Table) → HeadPassed (t .edition) (t .count) → BodyPassedBy sums spare spares t → Sound t
+sound-by sums spare spares t head body =
     record {
       edition-to = head .edition-to;
       some = head .some;
@@ -150,12 +151,6 @@ sound t ok =
       follower-distance = λ i l e. follower-passed t i (arrive i l) e .2;
     }
   where
-    head : HeadPassed (t .edition) (t .count)
-    head = fault-passed t ok .0
-
-    body : BodyPassed false 0 t
-    body = fault-passed t ok .1
-
     supplied : (0 < t .budget) × (t .budget ≤ t .period) × (t .period ≤ longest)
     supplied = supply-passed (t .budget) (t .period) (body .supply)
 
@@ -171,6 +166,9 @@ sound t ok =
         go : (b : Bool) → leb 1 (named t i) ≡ b → named t i < 1
         go true f = absurd (never-both _ (ap₂ _&&_ f (eq-eqb (kindOf t i) timer e)) free)
         go false f = leb-false 1 (named t i) f
+
+pub sound : (t : Table) → (faultOf t) .number ≡ 0 → Sound t
+sound t ok = let p = fault-passed t ok in sound-by true false 0 t (p .0) (p .1)
 
 -- ---- the values of a table without faults fit the bytes that they are written to
 

@@ -1,7 +1,8 @@
-// What is wrong with a table's values: refusals 2 to 14 and 22, first match.
+// What is wrong with a table's values: refusals 2 to 14, 22 and 24, first match.
 // What only bytes can show is tested by the reader (4) or comes in beside the table (5).
 
 use link_rules::links_fault;
+use numbers::ABOVE_SUM;
 use numbers::CLIENT;
 use numbers::EDITION_ONE;
 use numbers::EDITION_TWO;
@@ -23,9 +24,11 @@ use table::Refusal;
 use table::Table;
 use table::refused;
 ghost use mathlib.Core.Path.{_≡_};
-ghost use Prim.Native.Nat.{ℕ, _≤_};
+ghost use mathlib.Core.Bool.{not, _&&_};
+ghost use Prim.Native.Nat.{ℕ, _≤_, _<_};
+ghost use Rattle.ranges.specs.Every.{every};
 ghost use Rattle.numbers.specs.Numbers.{places};
-ghost use Rattle.rules.specs.Rules.{headFault, supplyFault, entriesFault, unusedFault, recordFault, recordsFrom, bodyFault, faultOf};
+ghost use Rattle.rules.specs.Rules.{headFault, supplyFault, entriesFault, joins, sumsFault, unusedFault, recordFaultBy, recordsBy, bodyBy, faultOf};
 
 // What is wrong with edition and count; number 0 where nothing is.
 pub fn head_fault(edition: u8, count: u8) -> Refusal
@@ -86,6 +89,43 @@ fn entries_fault(c: Callback) -> bool
     false
 }
 
+// Whether E(k + 1) is above the sum of two entries whose positions add up to k + 1.
+fn above_sum(c: Callback, k: u8) -> bool
+    requires { ⌜ k < 8 ⌝ }
+    ensures { λ r. ⌜ r ≡ not (every k (joins (c .entries) k)) ⌝ }
+{
+    let whole = c.entries[k as usize] as u32;
+    let mut j: u8 = 0;
+    while j < k {
+        let rest = k - j - 1;
+        let sum = c.entries[j as usize] as u32 + c.entries[rest as usize] as u32;
+        if whole > sum {
+            return true;
+        }
+        j += 1;
+    }
+    false
+}
+
+// Whether an entry is above the sum of two, where `sums` says that it matters.
+fn sums_fault(c: Callback, sums: bool) -> bool
+    requires { ⌜ c .used ≤ 8 ⌝ }
+    ensures { λ r. ⌜ r ≡ (sums && sumsFault c) ⌝ }
+{
+    if !sums {
+        return false;
+    }
+    let m = c.used;
+    let mut k: u8 = 0;
+    while k < m {
+        if above_sum(c, k) {
+            return true;
+        }
+        k += 1;
+    }
+    false
+}
+
 // Whether an entry beyond E(m) is not zero.
 fn unused_fault(c: Callback) -> bool
     ensures { λ r. ⌜ r ≡ unusedFault c ⌝ }
@@ -101,8 +141,8 @@ fn unused_fault(c: Callback) -> bool
 }
 
 // The number that a record of n is refused with, 0 where it is not.
-fn record_fault(n: u8, c: Callback, spare: bool) -> u8
-    ensures { λ r. ⌜ r ≡ recordFault n c spare ⌝ }
+fn record_fault(n: u8, c: Callback, spare: bool, sums: bool) -> u8
+    ensures { λ r. ⌜ r ≡ recordFaultBy sums n c spare ⌝ }
 {
     if c.kind < TIMER {
         return WRONG_KIND;
@@ -116,6 +156,9 @@ fn record_fault(n: u8, c: Callback, spare: bool) -> u8
     if entries_fault(c) {
         return WRONG_ENTRIES;
     }
+    if sums_fault(c, sums) {
+        return ABOVE_SUM;
+    }
     if unused_fault(c) {
         return SPARE_NOT_ZERO;
     }
@@ -126,16 +169,16 @@ fn record_fault(n: u8, c: Callback, spare: bool) -> u8
 }
 
 // What is wrong with the first record that is refused; the mask has the records with a spare byte not zero.
-fn records_fault(t: Table, spares: u16) -> Refusal
+fn records_fault(t: Table, spares: u16, sums: bool) -> Refusal
     requires { ⌜ t .count ≤ places ⌝ }
-    ensures { λ r. ⌜ r ≡ recordsFrom spares t (t .count) 0 ⌝ }
+    ensures { λ r. ⌜ r ≡ recordsBy sums spares t (t .count) 0 ⌝ }
 {
     let n = t.count;
     let mut i: u8 = 0;
     while i < n {
         let c = t.callbacks[i as usize];
         let spare = masks::test_slot(spares, i as u16);
-        let number = record_fault(n, c, spare);
+        let number = record_fault(n, c, spare, sums);
         if number != 0 {
             return refused(number, i + 1);
         }
@@ -144,10 +187,10 @@ fn records_fault(t: Table, spares: u16) -> Refusal
     refused(0, 0)
 }
 
-// What is wrong with a table besides its edition and count; `spare` says that a spare byte of the header is not zero.
-pub fn body_fault(t: Table, spare: bool, spares: u16) -> Refusal
+// What is wrong with a table besides its edition and count; `spare` says that a spare byte of the header is not zero, `sums` that 24 is tested.
+pub fn body_fault(t: Table, spare: bool, spares: u16, sums: bool) -> Refusal
     requires { ⌜ t .count ≤ places ⌝ }
-    ensures { λ r. ⌜ r ≡ bodyFault spare spares t ⌝ }
+    ensures { λ r. ⌜ r ≡ bodyBy sums spare spares t ⌝ }
 {
     if spare {
         return refused(SPARE_NOT_ZERO, 0);
@@ -161,7 +204,7 @@ pub fn body_fault(t: Table, spare: bool, spares: u16) -> Refusal
     if t.horizon > LONGEST {
         return refused(WRONG_HORIZON, 0);
     }
-    let r = records_fault(t, spares);
+    let r = records_fault(t, spares, sums);
     if r.number != 0 {
         return r;
     }
@@ -176,5 +219,5 @@ pub fn fault(t: Table) -> Refusal
     if head.number != 0 {
         return head;
     }
-    body_fault(t, false, 0)
+    body_fault(t, false, 0, true)
 }

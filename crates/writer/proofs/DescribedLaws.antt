@@ -20,7 +20,7 @@ use Rattle.table.specs.declared.Callback.{Callback}
 use Rattle.table.specs.declared.Table.{Table}
 use Rattle.table.specs.Values.{accepted, callbackTicks, callbackOf, tableOf, headless, placed, callbackAt}
 use Rattle.table.proofs.PlacedLaws.{placed-in}
-use Rattle.rules.specs.Rules.{headFault, entriesFault, unusedFault, recordFault}
+use Rattle.rules.specs.Rules.{headFault, entriesFault, sumsFault, unusedFault, recordFault, recordFaultBy}
 use Rattle.rules.proofs.RulesLaws.{cost-many}
 use Rattle.rules.proofs.Passed.{HeadPassed, RecordPassed}
 use Rattle.rules.proofs.Alike.{Alike}
@@ -68,38 +68,30 @@ narrow-above n x l = go (le-or-lt x 255)
     go (inr h) = ap (ltb n) (narrow-wide x h) ∙ simp (lt-ltb n 255 l, lt-ltb n x (omega arith))
 
 module _ (n : ℕ) (c : Callback) (spare : Bool) (l : n < 255) where
-  -- one record's number by its four tests
-  judge : Bool → Bool → Bool → Bool → ℕ
-  judge kind next entries unused =
-      cond (not kind) Numbers.wrongKind (cond next Numbers.wrongNext (cond entries Numbers.wrongEntries (cond (unused || spare) Numbers.spareNotZero 0)))
-
   abbrev d : Callback
   d = narrowRecord c
 
-  entries-same : c .used ≤ 255 → (entriesFault c ≡ entriesFault d) × (unusedFault c ≡ unusedFault d)
-  unfolding entriesFault unusedFault
-  entries-same h =
-      let e = sym (narrow-same (c .used) h) in
-      let with : ℕ → Callback = λ m. callbackOf (narrow (c .kind) ∷ narrow (c .next) ∷ m ∷ []) (callbackTicks c) (c .entries) in
-      (ap (λ (m : ℕ). entriesFault (with m)) e, ap (λ (m : ℕ). unusedFault (with m)) e)
+  -- what the tests of m and of the entries make of a record
+  abbrev entriesNumber : Callback → ℕ
+  entriesNumber x = cond (entriesFault x) Numbers.wrongEntries (cond (sumsFault x) Numbers.aboveSum (cond (unusedFault x || spare) Numbers.spareNotZero 0))
+
+  entries-judged : entriesNumber c ≡ entriesNumber d
+  unfolding entriesFault sumsFault unusedFault
+  entries-judged = go (le-or-lt (c .used) 255)
+    where
+      many : (x : Callback) → 8 < x .used → entriesNumber x ≡ Numbers.wrongEntries
+      many x h = rw (sym (cost-many x h))
+
+      go : (c .used ≤ 255) ⊎ (255 < c .used) → entriesNumber c ≡ entriesNumber d
+      go (inl h) = ap (λ (m : ℕ). entriesNumber (callbackOf (narrow (c .kind) ∷ narrow (c .next) ∷ m ∷ []) (callbackTicks c) (c .entries))) (sym (narrow-same (c .used) h))
+      go (inr h) = many c (omega arith) ∙ sym (many d (omega (arith, narrow-wide (c .used) h)))
 
   record-judged : recordFault n c spare ≡ recordFault n d spare
-  unfolding recordFault judge
-  record-judged = front ∙ go (le-or-lt (c .used) 255)
-    where
-      test : Bool → Bool → ℕ
-      test entries unused = judge (within Numbers.timer Numbers.client (d .kind)) (ltb n (d .next)) entries unused
-
-      front : recordFault n c spare ≡ test (entriesFault c) (unusedFault c)
-      front =
-          ap₂ (λ (k x : Bool). judge k x (entriesFault c) (unusedFault c))
-          (sym (narrow-within Numbers.timer Numbers.client (c .kind) (omega arith))) (sym (narrow-above n (c .next) l))
-
-      go : (c .used ≤ 255) ⊎ (255 < c .used) → test (entriesFault c) (unusedFault c) ≡ test (entriesFault d) (unusedFault d)
-      go (inl h) = let e = entries-same h in ap₂ test (e .0) (e .1)
-      go (inr h) =
-          ap (λ (x : Bool). test x (unusedFault c)) (sym (cost-many c (omega arith)))
-          ∙ ap (λ (x : Bool). test x (unusedFault d)) (cost-many d (omega (arith, narrow-wide (c .used) h)))
+  unfolding recordFaultBy
+  record-judged =
+      ap₂ (λ (k x : Bool). cond (not k) Numbers.wrongKind (cond x Numbers.wrongNext (entriesNumber c)))
+      (sym (narrow-within Numbers.timer Numbers.client (c .kind) (omega arith))) (sym (narrow-above n (c .next) l))
+      ∙ ap (λ (x : ℕ). cond (not (within Numbers.timer Numbers.client (d .kind))) Numbers.wrongKind (cond (ltb n (d .next)) Numbers.wrongNext x)) entries-judged
 
   record-same : RecordPassed n c spare → c ≡ d
   record-same p =

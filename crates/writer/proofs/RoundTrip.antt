@@ -3,6 +3,7 @@
 -- described-reads-back: so is a described table.
 -- writes-back: a table that the reader accepts, read and written, is the same byte by byte.
 use mathlib.Core.Path.{_≡_, refl, sym, ap, ap₂, _∙_}
+use mathlib.Core.Bool.{true}
 use mathlib.Core.List.{List, [], append-nil}
 use Prim.Native.Nat.{ℕ, _+_, _≤_, _<_}
 use native.Mathlib.Omega.{arith}
@@ -74,7 +75,7 @@ module _ (t : Table) (eight : (i : ℕ) → i < t .count → length ((callbackAt
   pub written-read : readOf (written t) ≡ record { refusal = accepted; table = u }
   written-read =
       ap readOf same
-      ∙ reading-whole (written u) accepted (readFault-written u writable) refl
+      ∙ reading-whole true (written u) accepted (readFault-written u writable) refl
       ∙ ap (λ (x : Table). record { refusal = accepted; table = x }) (ap tableAt (sym (append-nil (written u))) ∙ tableAt-written u writable [])
 
   pub written-length : length (written t) ≡ recordStart (t .count)
