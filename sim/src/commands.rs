@@ -2,17 +2,22 @@
 
 use crate::streams::input;
 use sim::check::{check, judged, report};
-use sim::frames::{cut_readings, cut_replies, framed, packed_history, readings, replies, writings};
+use sim::frames::{
+    cut_readings, cut_replies, framed, normalisings, packed_history, readings, replies, writings,
+};
 use sim::generate::beats::{some_of, timers};
+use sim::generate::curves::{any_old_table, sound_or_bent};
 use sim::generate::damage::damaged;
 use sim::generate::edges::{base, beating, edges, late};
 use sim::generate::histories::{covering, folding, outside, span, starved, within, Style};
+use sim::generate::normal_edges::normal_edges;
 use sim::generate::states::{changes, sound, spoil};
 use sim::generate::tables::{any_shape, table, Shape};
 use sim::generate::worst::worst;
 use sim::generate::write_edges::write_edges;
 use sim::history::play;
 use sim::machine::{start, Tick};
+use sim::normalise::normalise;
 use sim::picture::svg_part;
 use sim::random::Random;
 use sim::sheet::{sheet, Sheet};
@@ -91,6 +96,8 @@ pub fn run(words: &[&str]) -> Result<Ending, Failure> {
         ["readings"] => Ok(read_frames(&input()?)),
         ["histories"] => Ok(played_histories(&input()?)),
         ["writings"] => Ok(written_frames(&input()?)),
+        ["normalise"] => Ok(normal_bytes(&input()?)),
+        ["normalisings"] => Ok(normal_frames(&input()?)),
         ["generate", ..] => Ok(Ending::new(generated(words)?, true)),
         ["check", seed, count, rest @ ..] => checked(seed, count, rest),
         [] => Err(Failure::Words("no command".to_string())),
@@ -226,6 +233,20 @@ fn written_frames(bytes: &[u8]) -> Ending {
     Ending::new(text, in_order).and(cut_readings(bytes))
 }
 
+/// The program of U7: the new table, or a line for the refusal.
+fn normal_bytes(bytes: &[u8]) -> Ending {
+    match normalise(bytes) {
+        Ok(normal) => Ending::new(normal, true),
+        Err(refusal) => Ending::new(refusal_text(&refusal) + "\n", false),
+    }
+}
+
+fn normal_frames(bytes: &[u8]) -> Ending {
+    let text = normalisings(bytes);
+    let in_order = text.lines().all(|line| line.starts_with("0 "));
+    Ending::new(text, in_order).and(cut_readings(bytes))
+}
+
 fn played_histories(bytes: &[u8]) -> Ending {
     Ending::of_lines(replies(bytes)).and(cut_replies(bytes))
 }
@@ -235,6 +256,7 @@ fn generated(words: &[&str]) -> Result<Vec<u8>, Failure> {
         ["generate", "readings"] => Ok(all_framed(&edges())),
         ["generate", "histories"] => Ok(vectors()),
         ["generate", "writings"] => Ok(all_framed(&write_edges())),
+        ["generate", "normalisings"] => Ok(all_framed(&normal_edges())),
         ["generate", "tables", seed, count, rest @ ..] => Ok(tables(seed, count, rest)?.into()),
         ["generate", "history", seed, rest @ ..] => Ok(history(seed, rest)?.into()),
         _ => Err(wrong(words)),
@@ -274,10 +296,11 @@ fn tables(seed: &str, count: &str, rest: &[&str]) -> Result<String, Failure> {
             ["long"] => encode(&table(&mut random, Shape::Long)),
             ["extreme"] => encode(&table(&mut random, Shape::Extreme)),
             ["damaged"] => damaged(&mut random),
+            ["before"] => encode(&any_old_table(&mut random)),
             [] if random.chance(50) => damaged(&mut random),
             [] => {
                 let shape = any_shape(&mut random);
-                encode(&table(&mut random, shape))
+                encode(&sound_or_bent(&mut random, shape))
             }
             _ => return Err(wrong(rest)),
         };

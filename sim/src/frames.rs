@@ -1,7 +1,8 @@
 //! Tables, histories and values for the writer in binary: the input of the
-//! programs `readings`, `histories` and `writings`.
+//! programs `readings`, `histories`, `writings` and `normalisings`.
 
 use crate::machine::{start, Tick};
+use crate::normalise::normalise;
 use crate::table::read;
 use crate::text::{refusal_text, reply_text};
 use crate::write::{write, Values};
@@ -40,7 +41,27 @@ pub fn readings(input: &[u8]) -> String {
     frames(input).map(line).collect()
 }
 
-/// The frame of `readings` or `writings` that is cut short, if one is.
+/// `NUMBER INDEX` for each frame, 0 and 0 where the program of U7 takes it; then all its bytes
+/// afterwards where one of them is another than before.
+pub fn normalisings(input: &[u8]) -> String {
+    frames(input).map(normalised).collect()
+}
+
+fn normalised(bytes: &[u8]) -> String {
+    let (mut line, normal) = match normalise(bytes) {
+        Ok(normal) => ("0 0".to_string(), normal),
+        Err(refusal) => (
+            format!("{} {}", refusal.number, refusal.index),
+            bytes.to_vec(),
+        ),
+    };
+    if normal != bytes {
+        line.extend(normal.iter().map(|byte| format!(" {byte}")));
+    }
+    line + "\n"
+}
+
+/// The frame of `readings`, `writings` or `normalisings` that is cut short, if one is.
 pub fn cut_readings(input: &[u8]) -> Option<String> {
     let lengths: Vec<usize> = frames(input).map(|bytes| 2 + bytes.len()).collect();
     let whole: usize = lengths.iter().sum();

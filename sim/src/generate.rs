@@ -2,9 +2,11 @@
 
 pub mod beats;
 pub mod blocking;
+pub mod curves;
 pub mod damage;
 pub mod edges;
 pub mod histories;
+pub mod normal_edges;
 pub mod states;
 pub mod tables;
 pub mod values;

@@ -68,8 +68,8 @@ pub struct Start {
 }
 
 /// 'One tick of the machine', start: a state with these bytes, all else zero. Where the reader
-/// refuses the bytes (1 to 14, since U2 also 22): its refusal, and the same state without a table.
-/// Total.
+/// refuses the bytes (1 to 14, since U2 also 22, since U7 24): its refusal, and the same state
+/// without a table. Total.
 pub fn start(bytes: &[u8]) -> Start {
     let refusal = read(bytes).err();
     let table = match refusal {

@@ -19,11 +19,14 @@ const USAGE: &str = "usage:
   sim readings                               < frames
   sim histories                              < a frame, then ticks of 7 bytes
   sim writings                               < frames
-  sim generate tables SEED COUNT [small|long|extreme|damaged]
+  sim normalise                              < table bytes
+  sim normalisings                           < frames
+  sim generate tables SEED COUNT [small|long|extreme|damaged|before]
   sim generate history SEED [within|outside|faulty|worst] [TICKS] [TABLE]
   sim generate readings
   sim generate histories
   sim generate writings
+  sim generate normalisings
   sim check SEED COUNT [TICKS]
   sim help
 ends with 0 where all is within, accepted or drawn; 1 where something is

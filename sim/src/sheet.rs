@@ -1,8 +1,9 @@
 //! The curves and the sheet: window, bounds and the analyser (refusals 15 to 17). Sections in
-//! quotes are document 01's, U2 and U5 are requests of document 02. The bound of before U5 is the
-//! first bound here, as its own name for the other one is the second bound.
+//! quotes are document 01's, U2, U5 and U7 are requests of document 02. The bound of before U5 is the
+//! first bound here, as its own name for the other one is the second bound. U7 changes nothing but
+//! which tables the reader takes.
 
-use crate::table::{read, refusal, Callback, Kind, Refusal, Table, MOST_CALLBACKS};
+use crate::table::{read, read_before_24, refusal, Callback, Kind, Refusal, Table, MOST_CALLBACKS};
 
 /// 'Curves', arrivals: the most activations of a head in D = `length` ticks, which is 0 for no
 /// ticks, whatever J is, and otherwise min(⌈(D + J) / T⌉, ⌈D / d⌉). (T and d must not be zero)
@@ -317,6 +318,18 @@ fn bound_by_rows(supplied: &[u64], own: &[u64], all: &[u64]) -> u64 {
 /// 'The sheet', analyser: gives W, with the bound of callback i in the i-th place of `row` and the
 /// places after n kept. A refusal keeps the whole row. Total.
 pub fn analyse(bytes: &[u8], row: &mut [u16]) -> Result<u64, Refusal> {
+    analyse_with(read, bytes, row)
+}
+
+/// The analyser as it was before U7, which takes tables that are refused with 24 since. Total.
+pub fn analyse_before_24(bytes: &[u8], row: &mut [u16]) -> Result<u64, Refusal> {
+    analyse_with(read_before_24, bytes, row)
+}
+
+/// A reader of tables, that of today or that of before U7.
+type Reader = fn(&[u8]) -> Result<Table, Refusal>;
+
+fn analyse_with(read: Reader, bytes: &[u8], row: &mut [u16]) -> Result<u64, Refusal> {
     if row.len() < MOST_CALLBACKS {
         return Err(refusal(17, 0));
     }
@@ -343,8 +356,17 @@ pub struct Sheet {
 
 /// The table, W and the bounds of these bytes, or the analyser's refusal.
 pub fn sheet(bytes: &[u8]) -> Result<Sheet, Refusal> {
+    sheet_with(read, bytes)
+}
+
+/// The same by the analyser of before U7.
+pub fn sheet_before_24(bytes: &[u8]) -> Result<Sheet, Refusal> {
+    sheet_with(read_before_24, bytes)
+}
+
+fn sheet_with(read: Reader, bytes: &[u8]) -> Result<Sheet, Refusal> {
     let mut row = [0; MOST_CALLBACKS];
-    let window = analyse(bytes, &mut row)?;
+    let window = analyse_with(read, bytes, &mut row)?;
     let table = read(bytes)?;
     let bounds = row[..table.count()].iter().map(|&b| b.into()).collect();
     Ok(Sheet {

@@ -1,5 +1,5 @@
-//! The callback table: its values, its bytes and its reader (refusals 1 to 14 and 22). Sections in
-//! quotes are document 01's, U1 and U2 are requests of document 02.
+//! The callback table: its values, its bytes and its reader (refusals 1 to 14, 22 and 24). Sections
+//! in quotes are document 01's, U1, U2 and U7 are requests of document 02.
 
 pub const MOST_CALLBACKS: usize = 16;
 pub const LARGEST: u64 = 60_000;
@@ -133,14 +133,32 @@ pub(crate) fn refuse_if(condition: bool, number: u8, index: usize) -> Result<(),
     }
 }
 
-/// Refusals 1 to 14 and 22: the table, or the first refusal met in header, records, links and
+/// Refusals 1 to 14, 22 and 24: the table, or the first refusal met in header, records, links and
 /// arrivals, where a record goes through all its rows before the next record. Total.
 pub fn read(bytes: &[u8]) -> Result<Table, Refusal> {
+    read_as(bytes, Step::SinceU7)
+}
+
+/// The same as it was before U7, which lacks 24 and is otherwise what `read` is. U7's program reads
+/// so, and so can windows and bounds of before be asked for. Total.
+pub fn read_before_24(bytes: &[u8]) -> Result<Table, Refusal> {
+    read_as(bytes, Step::BeforeU7)
+}
+
+/// Which of the two readers is meant.
+#[derive(Clone, Copy, PartialEq, Eq)]
+enum Step {
+    BeforeU7,
+    SinceU7,
+}
+
+fn read_as(bytes: &[u8], step: Step) -> Result<Table, Refusal> {
     check_header(bytes)?;
+    let count = usize::from(bytes[1]);
     let mut callbacks = Vec::new();
     let records = bytes[HEADER_BYTES..].chunks(RECORD_BYTES);
-    for (place, record) in records.enumerate() {
-        callbacks.push(read_record(record, place + 1, usize::from(bytes[1]))?);
+    for (record, index) in records.zip(1..) {
+        callbacks.push(read_record(record, index, count, step)?);
     }
     let table = Table {
         edition: bytes[0],
@@ -172,10 +190,10 @@ fn check_header(bytes: &[u8]) -> Result<(), Refusal> {
     refuse_if(horizon > LARGEST, 7, 0)
 }
 
-/// Refusals 8, 9, 10 and 5 of one record. 'The callback table', record: kind at byte 0, next at 1,
-/// m (1 to 8) at 2, T at 4, J at 6, d at 8, and from 12 on room for eight cost entries. What lies
-/// beyond entry m, and each spare byte, has to be 0.
-fn read_record(record: &[u8], index: usize, count: usize) -> Result<Callback, Refusal> {
+/// Refusals 8, 9, 10, since U7 24, and 5 of one record. 'The callback table', record: kind at byte
+/// 0, next at 1, m (1 to 8) at 2, T at 4, J at 6, d at 8, and from 12 on room for eight cost entries.
+/// What lies beyond entry m, and each spare byte, has to be 0.
+fn read_record(record: &[u8], index: usize, count: usize, step: Step) -> Result<Callback, Refusal> {
     let kind = kind_of(record[0]).ok_or(refusal(8, index))?;
     let next = usize::from(record[1]);
     refuse_if(next > count, 9, index)?;
@@ -186,6 +204,8 @@ fn read_record(record: &[u8], index: usize, count: usize) -> Result<Callback, Re
         .collect();
     let (entries, unused) = all.split_at(used);
     refuse_if(!entries_by_the_rules(entries), 10, index)?;
+    let impossible = step == Step::SinceU7 && exceeds_two(entries);
+    refuse_if(impossible, 24, index)?;
     let spare = [3, 10, 11, 28, 29, 30, 31];
     let dirty = unused.iter().any(|&e| e != 0) || spare.iter().any(|&at| record[at] != 0);
     refuse_if(dirty, 5, index)?;
@@ -213,6 +233,16 @@ pub(crate) fn kind_of(byte: u8) -> Option<Kind> {
 /// 'Curves', cost: whether the used entries are strictly increasing and in range, 1 to 60,000.
 pub(crate) fn entries_by_the_rules(entries: &[u64]) -> bool {
     entries.iter().all(|e| (1..=LARGEST).contains(e)) && entries.windows(2).all(|p| p[0] < p[1])
+}
+
+/// U7, refusal 24: whether an entry is more than two entries together whose positions make up its
+/// own. One entry may stand for both: the second is compared with twice the first.
+pub fn exceeds_two(entries: &[u64]) -> bool {
+    let entry = |position: usize| entries[position - 1];
+    (1..=entries.len()).any(|position| {
+        let mut firsts = 1..position;
+        firsts.any(|first| entry(position) > entry(first) + entry(position - first))
+    })
 }
 
 /// Refusals 11, 12 and 13, each over all callbacks before the next one: the lowest callback in more

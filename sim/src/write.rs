@@ -1,10 +1,10 @@
-//! The writer of U4 (refusals 2, 3, 5 to 14, 22 and 23): a table's bytes from its numbers. They are
-//! judged as numbers, before any of them becomes a byte. Sections in quotes are document 01's, U1, U2
-//! and U4 are requests of document 02.
+//! The writer of U4 (refusals 2, 3, 5 to 14, 22, 23 and, since U7, 24): a table's bytes from its
+//! numbers. They are judged as numbers, before any of them becomes a byte. Sections in quotes are
+//! document 01's, U1, U2, U4 and U7 are requests of document 02.
 
 use crate::table::{
-    check_arrivals, check_links, entries_by_the_rules, kind_of, refusal, refuse_if, Callback,
-    Refusal, Table, HEADER_BYTES, LARGEST, MOST_CALLBACKS, MOST_ENTRIES, RECORD_BYTES,
+    check_arrivals, check_links, entries_by_the_rules, exceeds_two, kind_of, refusal, refuse_if,
+    Callback, Refusal, Table, HEADER_BYTES, LARGEST, MOST_CALLBACKS, MOST_ENTRIES, RECORD_BYTES,
 };
 
 /// Kind, next, m, T, J, d, then E(1) to E(8).
@@ -122,7 +122,7 @@ fn check_header(values: &Values) -> Result<(), Refusal> {
     refuse_if(horizon > LARGEST, 7, 0)
 }
 
-/// Refusals 8, 9, 10 and 5 of one record; 5 only for an entry beyond m, as values have no spare
+/// Refusals 8, 9, 10, 24 and 5 of one record; 5 only for an entry beyond m, as values have no spare
 /// bytes. Kind, next and m are compared as they are given, like edition and n.
 fn check_record(record: &Record, index: usize, count: usize) -> Result<Callback, Refusal> {
     let [kind, next, used, period, jitter, distance, entries @ ..] = record.map(u64::from);
@@ -132,6 +132,7 @@ fn check_record(record: &Record, index: usize, count: usize) -> Result<Callback,
     refuse_if(!(1..=MOST_ENTRIES as u64).contains(&used), 10, index)?;
     let (entries, unused) = entries.split_at(used as usize);
     refuse_if(!entries_by_the_rules(entries), 10, index)?;
+    refuse_if(exceeds_two(entries), 24, index)?;
     refuse_if(unused.iter().any(|&entry| entry != 0), 5, index)?;
     Ok(Callback {
         kind,

@@ -4,7 +4,7 @@ mod common;
 use common::*;
 use sim::generate::beats::timers;
 use sim::generate::histories::{span, within, Style};
-use sim::generate::tables::{table, Shape};
+use sim::generate::tables::{table, table_before_24, Shape};
 use sim::generate::worst::{tries, worst};
 use sim::history::{longest_response, play, within_curves, History};
 use sim::random::Random;
@@ -41,7 +41,8 @@ fn plain(script: &Script) -> History {
 /// draw for tables of edition 1 without a delay. Drawn tables stay but for edition and delay;
 /// without these they are compared. Where U5 changes bounds, the worst history and the checks are
 /// others, and with U6 timers beat more often in all histories, so that of these only those of tables
-/// without timers are compared.
+/// without timers are compared. The tables are those of before U7, and only where none of them has
+/// fault 24 are histories and checks what they were.
 #[test]
 fn seeds_give_what_they_gave() {
     let drawn = |sort: &str| digest(without_timers(histories_of_seeds(1..=200, sort, "300")));
@@ -49,12 +50,15 @@ fn seeds_give_what_they_gave() {
     assert_eq!(drawn("outside"), OUTSIDE);
     let worst = without_timers(histories_of_seeds(1..=200, "worst", "40"));
     assert_eq!(digest(worst), WORST);
-    let tables = |sort: &str| {
-        let text = program(&["generate", "tables", "1", "300", sort], b"");
-        digest(text.lines().map(without_edition_and_delay))
+    let tables = |shape| {
+        let mut random = Random::new(1);
+        let tables = (0..300).map(|_| table_before_24(&mut random, shape));
+        digest(tables.map(|table| without_edition_and_delay(&hex(&encode(&table)))))
     };
-    assert_eq!(["small", "long", "extreme"].map(tables), TABLES);
-    let plain = (1..=300).filter(|&seed| !with_timers_first(&checked_table(seed)));
+    let shapes = [Shape::Small, Shape::Long, Shape::Extreme];
+    assert_eq!(shapes.map(tables), TABLES);
+    let seeds = (1..=300).filter(|&seed| checked_without_faults_24(seed));
+    let plain = seeds.filter(|&seed| !with_timers_first(&checked_table(seed)));
     let checks = plain.map(|seed| program(&["check", &seed.to_string(), "1"], b""));
     let first = checks.filter(|text| text.contains(NEITHER));
     assert_eq!(digest(first.map(|text| as_before(&text))), CHECK);
@@ -75,21 +79,21 @@ fn as_before(check: &str) -> String {
     lines.map(|line| line.to_string() + "\n").collect()
 }
 
-const WITHIN: u64 = 0x5a10_e3cb_b2a3_8cde;
-const OUTSIDE: u64 = 0x1fc2_bcd8_d987_dcce;
-const WORST: u64 = 0x2304_aaf9_c407_64fa;
+const WITHIN: u64 = 0xe3ed_ea11_fd2a_65c1;
+const OUTSIDE: u64 = 0x8519_824a_7cc5_4981;
+const WORST: u64 = 0xe478_6c51_f943_4ccc;
 const TABLES: [u64; 3] = [
     0xa374_5eb6_8589_f093,
     0x105b_297a_ca2f_eb06,
     0x0462_703d_f5b7_4833,
 ];
-const CHECK: u64 = 0xaf59_2a8d_4257_24c5;
+const CHECK: u64 = 0x2203_b5cf_e46d_fbfa;
 const NEITHER: &str = "accepted 1\nof these in edition 2 0\nof these with a delay 0\n";
 
 /// What these seeds give of this sort, where the table is of edition 1 and none was drawn with a
-/// delay.
+/// delay or with fault 24.
 fn histories_of_seeds(seeds: RangeInclusive<u64>, sort: &str, ticks: &str) -> Vec<String> {
-    let seeds = seeds.filter(|&seed| without_delays(seed));
+    let seeds = seeds.filter(|&seed| without_faults_24(seed) && without_delays(seed));
     let texts = seeds.map(|seed| {
         let words = ["generate", "history", &seed.to_string(), sort, ticks];
         program(&words, b"")
@@ -102,23 +106,23 @@ fn without_edition_and_delay(line: &str) -> String {
     format!("{}{}\n", &line[2..16], &line[20..])
 }
 
-/// What seeds give since U6 for tables of edition 1 with timers.
+/// What seeds give since U6 for tables of edition 1 with timers and, before U7, without fault 24.
 #[test]
 fn seeds_give_what_they_give_for_timers() {
     let worst = histories_of_seeds(1..=60, "worst", "40").into_iter();
     let timed =
         worst.filter(|text| with_timers_first(&read(&script(text).unwrap().table).unwrap()));
     assert_eq!(digest(timed), TIMED_WORST);
-    let seeds = (1..=60).filter(|&seed| with_timers_first(&checked_table(seed)));
+    let seeds = (1..=60).filter(|&seed| checked_without_faults_24(seed));
+    let seeds = seeds.filter(|&seed| with_timers_first(&checked_table(seed)));
     let checks = seeds.map(|seed| program(&["check", &seed.to_string(), "1"], b""));
     assert_eq!(digest(checks), TIMED_CHECK);
 }
 
-const TIMED_WORST: u64 = 0xb755_9d48_256b_b492;
-const TIMED_CHECK: u64 = 0x3655_ac5d_fc9d_2fbe;
+const TIMED_WORST: u64 = 0xc266_92d6_9d16_6dd9;
+const TIMED_CHECK: u64 = 0x5fd7_df9f_d8b1_1fd2;
 
-/// What seeds give since U2, damaged tables among it: these have one number more to be refused with.
-/// The faulty histories are those since U6, with other timers in their states and more beats.
+/// What seeds give since U7, damaged tables among it: these have one number more to be refused with.
 #[test]
 fn seeds_give_what_they_give() {
     let faulty = (1..=30).map(|seed: u64| {
@@ -130,8 +134,8 @@ fn seeds_give_what_they_give() {
     assert_eq!(digest([tables]), ANY_TABLES);
 }
 
-const FAULTY: u64 = 0xd25d_9991_4710_6823;
-const ANY_TABLES: u64 = 0x420a_e43b_2e42_2f68;
+const FAULTY: u64 = 0x6e74_fb06_3a12_addb;
+const ANY_TABLES: u64 = 0x641a_af58_7145_76f8;
 
 #[test]
 fn histories_of_a_given_table() {

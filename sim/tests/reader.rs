@@ -2,11 +2,12 @@
 
 mod common;
 use common::*;
-use sim::generate::damage::{refused_with, NUMBERS};
+use sim::generate::curves::LEAST_PAIRS;
+use sim::generate::damage::{damaged, refused_with, NUMBERS};
 use sim::generate::tables::{any_shape, table};
 use sim::random::Random;
 use sim::sheet::analyse;
-use sim::table::{encode, read, Kind, Refusal, Table};
+use sim::table::{encode, read, read_before_24, Kind, Refusal, Table};
 
 /// The refusal of `chain()` with one byte written, if any.
 fn written(at: usize, value: u8) -> Option<Refusal> {
@@ -45,11 +46,11 @@ fn layout() {
     let mut table = supplied(
         2,
         772,
-        vec![lone(Kind::Service, 1_286, 1_800, 770, &[1, 514])],
+        vec![lone(Kind::Service, 1_286, 1_800, 770, &[513, 770])],
     );
     table.horizon = 1_541;
     let mut expected = vec![1, 1, 2, 0, 4, 3, 5, 6, 0, 0, 0, 0, 0, 0, 0, 0];
-    expected.extend([3, 0, 2, 0, 6, 5, 8, 7, 2, 3, 0, 0, 1, 0, 2, 2]);
+    expected.extend([3, 0, 2, 0, 6, 5, 8, 7, 2, 3, 0, 0, 1, 2, 2, 3]);
     expected.extend([0; 16]);
     assert_eq!(encode(&table), expected);
     expected[0] = 2;
@@ -213,10 +214,94 @@ fn refusal_10() {
         assert_eq!(written_word(record(2) + 12, entry), outcome);
     }
     let entries = |entries: &[u64]| read(&encode(&full(vec![timer(9, entries)]))).err();
-    assert_eq!(entries(&[1, 2, 3, 4, 5, 6, 7, 60_000]), None);
+    let most: Vec<u64> = (1..=8).map(|position| 7_500 * position).collect();
+    assert_eq!(entries(&most), None);
+    assert_eq!(entries(&[&most[..7], &[60_001]].concat()), refused(10, 1));
     assert_eq!(entries(&[1, 2, 3, 4, 5, 6, 7, 7]), refused(10, 1));
     assert_eq!(entries(&[3, 2]), refused(10, 1));
     assert_eq!(entries(&[1, 60_001]), refused(10, 1));
+    assert_eq!(entries(&[30_001, 60_001]), refused(10, 1));
+}
+
+/// U7: each two positions that make up another, at their sum and one above it, in any record.
+#[test]
+fn refusal_24() {
+    for index in 1..=3u8 {
+        let entries = |entries: &[u64]| {
+            let mut table = chain();
+            table.callbacks[usize::from(index) - 1].entries = entries.to_vec();
+            read(&encode(&table)).err()
+        };
+        for (first, position, before) in LEAST_PAIRS {
+            assert_eq!((before.len(), entries(before)), (position - 1, None));
+            let sum = before[first - 1] + before[position - first - 1];
+            let last = before[position - 2];
+            for entry in [last + 1, sum - 1, sum] {
+                if entry > last {
+                    assert_eq!(entries(&[before, &[entry]].concat()), None);
+                }
+            }
+            for entry in [sum + 1, sum + 2, 60_000] {
+                let bent = [before, &[entry]].concat();
+                assert_eq!(entries(&bent), refused(24, index), "{bent:?}");
+            }
+        }
+        assert_eq!(entries(&[3, 9]), refused(24, index));
+        assert_eq!(entries(&[1, 3, 4]), refused(24, index));
+        assert_eq!(entries(&[30_000, 60_000]), None);
+        assert_eq!(entries(&[29_999, 59_999]), refused(24, index));
+    }
+}
+
+/// U7: 24 comes behind 10 of the same record and before its 5; other records go before or behind it
+/// whole.
+#[test]
+fn refusal_24_in_its_order() {
+    let mut table = chain();
+    table.callbacks[1].entries = vec![3, 5, 9];
+    let mut bytes = encode(&table);
+    let mut write = |at: usize, value: u8| {
+        bytes[at] = value;
+        read(&bytes).err()
+    };
+    assert_eq!(write(record(1) + 8, 0), refused(24, 2));
+    assert_eq!(write(record(3), 0), refused(24, 2));
+    for (at, value) in [(28, 1), (18, 200), (3, 1)] {
+        assert_eq!(write(record(2) + at, value), refused(24, 2));
+    }
+    assert_eq!(write(record(2) + 14, 3), refused(10, 2));
+    assert_eq!(write(record(2) + 14, 5), refused(24, 2));
+    for used in [0, 9] {
+        assert_eq!(write(record(2) + 2, used), refused(10, 2));
+    }
+    // With two entries the third is unused.
+    assert_eq!(write(record(2) + 2, 2), refused(5, 2));
+    assert_eq!(write(record(2) + 2, 3), refused(24, 2));
+    assert_eq!(write(record(2) + 1, 4), refused(9, 2));
+    assert_eq!(write(record(2), 5), refused(8, 2));
+    assert_eq!(write(record(1) + 28, 1), refused(5, 1));
+    assert_eq!(write(record(1) + 28, 0), refused(8, 2));
+    assert_eq!(write(9, 255), refused(22, 0));
+}
+
+/// The reader of before U7 says the same but for 24, and there what is behind it.
+#[test]
+fn reader_of_before_24() {
+    let mut random = Random::new(3);
+    let (mut hidden, mut taken) = (0, 0);
+    for _ in 0..6_000 {
+        let bytes = damaged(&mut random);
+        let (now, before) = (read(&bytes), read_before_24(&bytes));
+        if now.as_ref().err().map(|refusal| refusal.number) != Some(24) {
+            assert_eq!(now, before);
+        } else if let Err(refusal) = before {
+            assert_ne!(refusal.number, 24);
+            hidden += 1;
+        } else {
+            taken += 1;
+        }
+    }
+    assert!(hidden > 100 && taken > 100, "{hidden} {taken}");
 }
 
 #[test]

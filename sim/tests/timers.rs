@@ -127,17 +127,17 @@ fn jitter() {
     assert_eq!(numbers(&table), (22, vec![13, 22], vec![12, 22]));
 }
 
-/// Offsets end with the own window, here at 1 and far below W. The entry of 10 would give a 2 at
-/// offset 8, though no two instances of 1 cost that much.
+/// Offsets end with the own window, here at 6 and far below W. Behind the last entry E(4) is 16, though
+/// twice two instances cost at most 12, which U7 leaves as it is; it would give a 7 at offset 9.
 #[test]
 fn offsets_of_the_own_window_alone() {
     let mut callbacks = vec![subscription(100, &[1]); 9];
-    callbacks[0] = timer(8, &[1, 10]);
+    callbacks[0] = lone(Kind::Timer, 50, 150, 3, &[5, 6, 11]);
     let table = full(callbacks);
     let (window, first, row) = numbers(&table);
-    assert_eq!((window, first[0], row[0]), (19, 10, 1));
-    assert_eq!(own(&table, 1), (0, 1));
-    assert_eq!(bound_literal(&table, 1, window), 1);
+    assert_eq!((window, first[0], row[0]), (24, 15, 5));
+    assert_eq!(own(&table, 1), (0, 6));
+    assert_eq!(bound_literal(&table, 1, window), 5);
 }
 
 /// Partial supply and a delay: s at 7, 8, 12, 13, 17, 18 is 1, 2, 3, 4, 5, 6 for Q = 2 and P = 5, and
@@ -169,7 +169,7 @@ fn lower_callbacks_of_cost_1() {
     // Only the first entry counts.
     let more = full(vec![
         timer(50, &[2]),
-        lone(Kind::Client, 50, 0, 50, &[1, 9]),
+        lone(Kind::Client, 50, 0, 50, &[1, 2]),
     ]);
     assert_eq!(numbers(&more), (3, vec![3; 2], vec![2, 3]));
 }

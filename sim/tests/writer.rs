@@ -4,6 +4,7 @@
 mod common;
 use common::*;
 use sim::frames::{cut_readings, framed, packed_writing, writings};
+use sim::generate::curves::LEAST_PAIRS;
 use sim::generate::damage::damaged;
 use sim::generate::edges::{base, late};
 use sim::generate::tables::{any_shape, table};
@@ -123,10 +124,10 @@ fn layout() {
         period: 772,
         horizon: 1_541,
         delay: 2_057,
-        records: vec![3, 0, 2, 1_286, 1_800, 770, 1, 514, 0, 0, 0, 0, 0, 0],
+        records: vec![3, 0, 2, 1_286, 1_800, 770, 513, 770, 0, 0, 0, 0, 0, 0],
     };
     let mut expected = vec![2, 1, 2, 0, 4, 3, 5, 6, 9, 8, 0, 0, 0, 0, 0, 0];
-    expected.extend([3, 0, 2, 0, 6, 5, 8, 7, 2, 3, 0, 0, 1, 0, 2, 2]);
+    expected.extend([3, 0, 2, 0, 6, 5, 8, 7, 2, 3, 0, 0, 1, 2, 2, 3]);
     expected.extend([0; 16]);
     assert_eq!(written(&values, 48), Ok(expected.clone()));
     assert_eq!(values_at(&expected), values);
@@ -159,7 +160,7 @@ fn tables_are_written_back() {
 fn written_values_read_back() {
     let mut random = Random::new(102);
     let mut accepted = 0;
-    for _ in 0..6_000 {
+    for _ in 0..7_000 {
         let mut values = values(&mut random);
         if let Ok(bytes) = written(&values, 528) {
             let read_back = values_at(&bytes);
@@ -229,6 +230,7 @@ fn refusals_in_their_order() {
     assert_eq!(refusal(3, KIND, 1), refused(12, 3));
     assert_eq!(refusal(4, NEXT, 3), refused(11, 3));
     assert_eq!(refusal(4, ENTRIES + 2, 1), refused(5, 4));
+    assert_eq!(refusal(4, ENTRIES + 1, 3), refused(24, 4));
     assert_eq!(refusal(4, ENTRIES + 1, 1), refused(10, 4));
     assert_eq!(refusal(4, NEXT, 5), refused(9, 4));
     assert_eq!(refusal(4, KIND, 5), refused(8, 4));
@@ -327,16 +329,11 @@ fn wide_numbers() {
 /// Numbers of two bytes use both: no bit of theirs is dropped, and none is refused for its size.
 #[test]
 fn numbers_of_two_bytes() {
-    let callbacks = vec![lone(
-        Kind::Client,
-        60_000,
-        60_000,
-        60_000,
-        &[255, 256, 60_000],
-    )];
+    let client = |entries: &[u64]| lone(Kind::Client, 60_000, 60_000, 60_000, entries);
+    let callbacks = vec![client(&[255, 256, 511]), client(&[30_000, 60_000])];
     let mut table = delayed(60_000, &supplied(60_000, 60_000, callbacks));
     table.horizon = 60_000;
-    let bytes = written(&of(&table), 48).unwrap();
+    let bytes = written(&of(&table), 80).unwrap();
     assert_eq!(read(&bytes), Ok(table));
 }
 
@@ -369,6 +366,38 @@ fn entries_beyond_the_used_ones() {
             let row = if other == 0 { 10 } else { row };
             let number = other as u16;
             assert_eq!(refused_for(&with(&right, 2, USED, number)), refused(row, 2));
+        }
+    }
+}
+
+/// U7, 24 by the reader's order: an entry above the sum of two, for each two positions, and just at it;
+/// behind 10, before 5, and a record at a time. No buffer is touched for it.
+#[test]
+fn entries_above_the_sum_of_two() {
+    for index in 1..=2 {
+        let of_entries = |entries: &[u64]| {
+            let mut callbacks = vec![timer(9, &[1]), subscription(9, &[1])];
+            callbacks[index - 1].entries = entries.to_vec();
+            of(&full(callbacks))
+        };
+        for (first, position, before) in LEAST_PAIRS {
+            let sum = before[first - 1] + before[position - first - 1];
+            let right = of_entries(&[before, &[sum]].concat());
+            assert_eq!(refused_for(&right), None);
+            let above = with(&right, index, ENTRIES + position - 1, sum as u16 + 1);
+            assert_eq!(refused_for(&above), refused(24, index));
+            let zero = with(&above, index, ENTRIES, 0);
+            assert_eq!(refused_for(&zero), refused(10, index));
+            if position < 8 {
+                let dirty = with(&above, index, ENTRIES + 7, 1);
+                assert_eq!(refused_for(&dirty), refused(24, index));
+            }
+            let used = with(&above, index, USED, position as u16 - 1);
+            assert_eq!(refused_for(&used), refused(5, index));
+            // The other record goes before or behind it whole.
+            let both = with(&above, 3 - index, ENTRIES + 7, 1);
+            let told = if index == 1 { 24 } else { 5 };
+            assert_eq!(refused_for(&both), refused(told, 1));
         }
     }
 }
@@ -510,7 +539,7 @@ fn values_of_bytes_cut_short() {
 #[test]
 fn every_number_is_met() {
     let mut random = Random::new(106);
-    let mut met = [[0; 17]; 24];
+    let mut met = [[0; 17]; 25];
     for _ in 0..30_000 {
         let values = values(&mut random);
         let rooms = rooms(&values);
@@ -685,7 +714,7 @@ fn generated_writings() {
         (drawn.status.code(), drawn.stdout),
         (Some(0), frames.clone())
     );
-    assert!(contents.len() <= 350 && contents.iter().all(|bytes| bytes.len() <= 1_000));
+    assert!(contents.len() <= 420 && contents.iter().all(|bytes| bytes.len() <= 1_000));
     let text = writings(&frames);
     assert!(text.len() < 100_000 && text.lines().count() == contents.len());
     let numbers = |line: &str, first: usize| -> Vec<u64> {
@@ -738,7 +767,7 @@ fn unpacked(bytes: &[u8]) -> (usize, Values) {
     (room, values)
 }
 
-/// What seeds give since U4.
+/// What seeds give since U7, before which there was one number less to be refused with.
 #[test]
 fn seeds_give_what_they_give() {
     let drawn = (1..=30).flat_map(|seed| {
@@ -748,4 +777,4 @@ fn seeds_give_what_they_give() {
     assert_eq!(digest(drawn), VALUES);
 }
 
-const VALUES: u64 = 0xd73a_e2d8_2057_c090;
+const VALUES: u64 = 0xc55d_76c7_774f_30b4;

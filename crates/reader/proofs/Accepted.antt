@@ -1,7 +1,7 @@
 -- What an accepted reading says of the bytes and of the table. Assumes nothing.
 -- read-refused, reading-is: a refused reading, and the refusal that a reading carries.
 -- ReadPassed, read-passed: what bytes with readFault number 0 have passed. read-spare: each record's spare bytes.
--- ReadPassedBy, passed-by, zero-by, table-by, sound-read, record-by: the same of bytes that were read with 24 tested or not.
+-- refusal-by, ReadPassedBy, passed-by, zero-by, table-by, sound-read, record-by: the same of bytes that were read with 24 tested or not.
 -- read-accepted, read-sound, read-table: their table has no fault, is sound, and is what is read. read-record, read-blank: its places.
 use mathlib.Core.Path.{_≡_, refl, sym, ap, _∙_}
 use mathlib.Core.Logic.{_⊎_, inl, inr, _≢_}
@@ -31,16 +31,20 @@ use Rattle.reader.proofs.FormatLaws.{read-short, reading-refused, readi
 
 -- ---- the reading
 
+-- the refusal that it carries, with 24 tested or not
+pub refusal-by : (sums : Bool) (b : List ℕ) → (readBy sums b) .refusal ≡ readFaultBy sums b
+refusal-by sums b = go (ℕ-discrete ((readFaultBy sums b) .number) 0)
+  where
+    go : Dec ((readFaultBy sums b) .number ≡ 0) → (readBy sums b) .refusal ≡ readFaultBy sums b
+    go (yes e) = ap (λ (r : Reading). r .refusal) (reading-whole sums b (readFaultBy sums b) refl e)
+    go (no h) = ap (λ (r : Reading). r .refusal) (reading-refused sums b (readFaultBy sums b) refl h)
+
 module _ (b : List ℕ) where
   pub read-refused : (readFault b) .number ≢ 0 → readOf b ≡ refusedReading (readFault b)
   read-refused h = reading-refused true b (readFault b) refl h
 
   pub reading-is : (readOf b) .refusal ≡ readFault b
-  reading-is = go (ℕ-discrete ((readFault b) .number) 0)
-    where
-      go : Dec ((readFault b) .number ≡ 0) → (readOf b) .refusal ≡ readFault b
-      go (yes e) = ap (λ (r : Reading). r .refusal) (reading-whole true b (readFault b) refl e)
-      go (no h) = ap (λ (r : Reading). r .refusal) (read-refused h)
+  reading-is = refusal-by true b
 
 -- ---- what has passed, with 24 tested or not
 

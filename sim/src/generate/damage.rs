@@ -1,16 +1,20 @@
 //! Tables damaged in every field, and bytes that are no table.
 
+use super::curves::{bend_some, sound_or_bent};
 use super::tables::{any_shape, edition, table, Shape};
 use crate::random::Random;
 use crate::table::{encode, HEADER_BYTES, MOST_CALLBACKS, MOST_ENTRIES, RECORD_BYTES};
 
-/// The numbers with which a table's bytes can be refused; 22 came with U2 of document 02.
-pub const NUMBERS: [u8; 17] = [1, 2, 3, 4, 5, 6, 7, 8, 9, 10, 11, 12, 13, 14, 15, 16, 22];
+/// The numbers with which a table's bytes can be refused; 22 came with U2 of document 02, 24 with U7.
+pub const NUMBERS: [u8; 18] = [
+    1, 2, 3, 4, 5, 6, 7, 8, 9, 10, 11, 12, 13, 14, 15, 16, 22, 24,
+];
 
-/// Bytes damaged somewhere; now and then the damage does no harm.
+/// Bytes damaged somewhere, some of a table that has fault 24 already; now and then the damage does
+/// no harm.
 pub fn damaged(random: &mut Random) -> Vec<u8> {
     let shape = any_shape(random);
-    let mut bytes = encode(&table(random, shape));
+    let mut bytes = encode(&sound_or_bent(random, shape));
     for _ in 0..random.range(1, 2) {
         match random.range(0, 5) {
             0 => change_byte(random, &mut bytes),
@@ -99,6 +103,10 @@ pub fn refused_with(random: &mut Random, number: u8) -> Vec<u8> {
         14 => arrivals(random, &mut bytes),
         15 => no_window(random, &mut bytes),
         22 => put(&mut bytes, 8, above(random)),
+        24 => {
+            bend_some(random, &mut base);
+            bytes = encode(&base);
+        }
         _ => crowded(random, &mut bytes),
     }
     bytes

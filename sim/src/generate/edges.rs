@@ -1,6 +1,8 @@
-//! Tables with one field at the ends of its range and a step beyond them,
-//! and bytes cut short or too long, in both editions.
+//! Tables with one field at the ends of its range and a step beyond them, cost
+//! entries at the sums that U7 of document 02 allows and above them, and bytes
+//! cut short or too long, in both editions.
 
+use super::curves::at_least_pairs;
 use crate::table::{
     encode, Callback, Kind, Table, HEADER_BYTES, MOST_CALLBACKS, MOST_ENTRIES, RECORD_BYTES,
 };
@@ -94,6 +96,8 @@ pub fn edges() -> Vec<Vec<u8>> {
             entries(&bytes, record, &mut tables);
         }
     }
+    curves(&mut tables);
+    with_curve_faults(&mut tables);
     links(&mut tables);
     lengths(&bytes, &mut tables);
     // Each table of edition 1 stands in edition 2 too.
@@ -167,6 +171,95 @@ fn entries(bytes: &[u8], record: usize, tables: &mut Vec<Vec<u8>>) {
         for value in [0, 1, before, before + 1, 60_000, 60_001, 65_535] {
             tables.push(with_word(bytes, at, value));
         }
+    }
+}
+
+/// A lone service with these entries behind a timer that is right.
+fn curve(entries: &[u64]) -> Table {
+    full(vec![lone(Kind::Timer, &[2]), lone(Kind::Service, entries)])
+}
+
+/// U7: for each position and each two that make it up the entry at their sum and one above it; then
+/// the largest entries that there can be, three in a row with two ways to be wrong, and a fault before
+/// the last entry.
+fn curves(tables: &mut Vec<Vec<u8>>) {
+    for more in [0, 1] {
+        let lists = at_least_pairs(more);
+        tables.extend(lists.iter().map(|entries| encode(&curve(entries))));
+    }
+    let others: [&[u64]; 17] = [
+        &[3, 9],
+        &[60_000],
+        &[30_000, 60_000],
+        &[29_999, 59_998],
+        &[29_999, 59_999],
+        &[29_999, 60_000],
+        &[59_999, 60_000],
+        &[1, 60_000],
+        &[20_000, 40_000, 60_000],
+        &[20_000, 39_999, 60_000],
+        &[1, 3, 4],
+        &[1, 2, 4],
+        &[4, 7, 11, 14, 18, 21, 25, 28],
+        &[4, 7, 11, 15, 16, 17, 18, 19],
+        &[
+            7_500, 15_000, 22_500, 30_000, 37_500, 45_000, 52_500, 60_000,
+        ],
+        &[
+            7_499, 14_998, 22_497, 29_996, 37_495, 44_994, 52_493, 60_000,
+        ],
+        &[
+            59_993, 59_994, 59_995, 59_996, 59_997, 59_998, 59_999, 60_000,
+        ],
+    ];
+    tables.extend(others.map(|entries| encode(&curve(entries))));
+}
+
+/// U7: fault 24 of callback 2 or 3 with other faults of the same table: of the header, of the same
+/// record, of the one before and the one behind, and of links and arrivals.
+fn with_curve_faults(tables: &mut Vec<Vec<u8>>) {
+    let record = |index: usize| HEADER_BYTES + RECORD_BYTES * (index - 1);
+    for index in [2, 3] {
+        let mut bent = base(1);
+        bent.callbacks[index - 1].entries = vec![3, 5, 9];
+        let bytes = encode(&bent);
+        tables.push(bytes.clone());
+        for (at, value) in [(0, 3), (1, 0), (2, 0), (6, 60_001), (8, 60_001), (10, 1)] {
+            tables.push(with_word(&bytes, at, value));
+        }
+        for near in index - 1..=index + 1 {
+            let faults = [
+                (0, 0),
+                (1, 5),
+                (2, 0),
+                (2, 9),
+                (3, 1),
+                (10, 1),
+                (26, 1),
+                (31, 1),
+            ];
+            tables.extend(faults.map(|(at, value)| with_byte(&bytes, record(near) + at, value)));
+            let entries = [
+                (12, 0),
+                (12, 60_001),
+                (14, 3),
+                (16, 5),
+                (16, 60_001),
+                (18, 1),
+            ];
+            tables.extend(entries.map(|(at, value)| with_word(&bytes, record(near) + at, value)));
+        }
+        // Other numbers of entries: without the one at fault, which then is unused, or with one
+        // that is 0.
+        tables.extend([1, 2, 4].map(|used| with_byte(&bytes, record(index) + 2, used)));
+        // Named twice, a timer named, on a loop, arrivals.
+        for (at, value) in [(record(4) + 1, 2), (record(3) + 1, 1), (record(4) + 1, 4)] {
+            tables.push(with_byte(&bytes, at, value));
+        }
+        tables.push(with_word(&bytes, record(1) + 8, 0));
+        // In two records the first is told.
+        bent.callbacks[3].entries = vec![1, 3];
+        tables.push(encode(&bent));
     }
 }
 

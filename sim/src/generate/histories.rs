@@ -4,6 +4,7 @@ use super::beats::{self, falls_behind, some_of, Beats};
 use super::blocking::{timers, Blocking, Stage};
 use crate::history::{named, History};
 use crate::machine::{bit, start, State, Tick};
+use crate::normalise::normal_table;
 use crate::random::Random;
 use crate::table::{encode, Table, LARGEST, MOST_CALLBACKS};
 use crate::trackers::{longest_starvation, ArrivalTracker, CostTracker, SupplyTracker};
@@ -206,7 +207,9 @@ struct Driver<'a> {
     stage: Stage,
 }
 
-/// A history within the curves, of `length` ticks, with beats that are folded.
+/// A history within the curves, of `length` ticks, with beats that are folded. A table of before U7
+/// does too: its curves count, but the machine has its normal table, as it refuses the other. The
+/// answers are the same, since no tick looks at an entry.
 pub fn within(random: &mut Random, table: &Table, style: &Style, length: u64) -> History {
     let beats = Beats::any(&mut random.aside());
     within_beating(random, table, style, length, beats)
@@ -226,7 +229,7 @@ pub fn within_beating(
         heads: (1..=table.count()).filter(|&i| table.is_head(i)).collect(),
         timers: beats::timers(table),
         beats,
-        state: start(&encode(table)).state,
+        state: start(&encode(&normal_table(table))).state,
         history: History::default(),
         supply: SupplyTracker::new(table),
         arrivals: table.callbacks.iter().map(ArrivalTracker::new).collect(),

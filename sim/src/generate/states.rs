@@ -1,5 +1,6 @@
 //! States written at will, sound or with one fault.
 
+use super::curves::bend_some;
 use super::damage::damaged;
 use crate::machine::{bit, gathers, start, State, MOST_TICKS};
 use crate::random::Random;
@@ -55,6 +56,7 @@ pub fn spoil(random: &mut Random, table: &Table, state: &mut State) {
         0 if table.delay > 0 && random.chance(40) => set_delay(random, state),
         0 if second && random.chance(50) => state.table[0] = 1,
         9 if second && random.chance(50) => run_uncached(random, table, state),
+        0 if random.aside().chance(30) => bend_curves(random, table, state),
         0 => state.table = damaged(random),
         1 => state.running = beyond + 1,
         2 => state.cache |= 1 << last,
@@ -74,6 +76,13 @@ pub fn spoil(random: &mut Random, table: &Table, state: &mut State) {
 fn set_delay(random: &mut Random, state: &mut State) {
     let delay: u16 = *random.pick(&[60_001, 60_001, 65_535, 60_000]);
     state.table[8..10].copy_from_slice(&delay.to_le_bytes());
+}
+
+/// Writes entries with fault 24 into the state's table.
+fn bend_curves(random: &mut Random, table: &Table, state: &mut State) {
+    let mut bent = table.clone();
+    bend_some(random, &mut bent);
+    state.table = encode(&bent);
 }
 
 /// Lets a timer, if there is one, run outside the cache: wrong in edition 2 alone, and else in order.

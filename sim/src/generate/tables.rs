@@ -1,5 +1,6 @@
-//! Random tables that the reader takes.
+//! Random tables that the reader takes, and those that it took before U7 of document 02.
 
+use crate::normalise::normal_table;
 use crate::random::Random;
 use crate::sheet::window;
 use crate::table::{Callback, Kind, Table, LARGEST, MOST_CALLBACKS, MOST_ENTRIES};
@@ -16,14 +17,30 @@ pub enum Shape {
 }
 
 /// A table of this sort. Edition and delay take no number from the generator, so that beside them a
-/// seed draws what it drew when there was neither.
+/// seed draws what it drew when there was neither. Since U7 its entries are normal; a delay at the
+/// brink goes by these.
 pub fn table(random: &mut Random, shape: Shape) -> Table {
-    let mut table = match shape {
+    let table = normal_table(&without_delay(random, shape));
+    delayed(random.aside(), shape, table)
+}
+
+/// What `table` was before U7, with the same numbers taken from the generator. Its entries may have
+/// fault 24; beside it the table is right.
+pub fn table_before_24(random: &mut Random, shape: Shape) -> Table {
+    let table = without_delay(random, shape);
+    delayed(random.aside(), shape, table)
+}
+
+fn without_delay(random: &mut Random, shape: Shape) -> Table {
+    match shape {
         Shape::Small => loaded(random, 6, 12),
         Shape::Long => loaded(random, 400, 2_000),
         Shape::Extreme => extreme(random),
-    };
-    let mut aside = random.aside();
+    }
+}
+
+/// The table with a delay that suits its sort.
+fn delayed(mut aside: Random, shape: Shape, mut table: Table) -> Table {
     table.delay = match shape {
         // Windows stay short: at the brink only where the horizon is short too.
         Shape::Small => delay(&mut aside, &table, 36, 100),
@@ -140,7 +157,8 @@ fn kind(random: &mut Random) -> Kind {
     *random.pick(&[Kind::Timer, Kind::Subscription, Kind::Service, Kind::Client])
 }
 
-/// Strictly increasing entries, mostly in steps of at most the first.
+/// Strictly increasing entries, mostly in steps of at most the first. Some have fault 24, also with
+/// such steps: the fourth may be above twice the second.
 fn entries(random: &mut Random, largest: u64) -> Vec<u64> {
     let used = if random.chance(50) {
         1

@@ -1,5 +1,6 @@
 //! Values for the writer: those of drawn tables, and others that are wrong or too wide somewhere.
 
+use super::curves::sound_or_bent;
 use super::damage::{damaged, refused_with, NUMBERS};
 use super::tables::{any_shape, table, Shape};
 use crate::random::Random;
@@ -7,8 +8,8 @@ use crate::table::{encode, HEADER_BYTES, LARGEST, MOST_CALLBACKS, MOST_ENTRIES, 
 use crate::write::{values_at, Values, NUMBERS_PER_RECORD};
 use std::collections::BTreeSet;
 
-/// The numbers with which values can be refused; the last one goes by the buffer.
-pub const REFUSALS: [u8; 14] = [2, 3, 5, 6, 7, 8, 9, 10, 11, 12, 13, 14, 22, 23];
+/// The numbers with which values can be refused; 23 goes by the buffer.
+pub const REFUSALS: [u8; 15] = [2, 3, 5, 6, 7, 8, 9, 10, 11, 12, 13, 14, 22, 23, 24];
 
 /// Places of the header's numbers among the values.
 pub(super) mod header {
@@ -66,7 +67,7 @@ pub fn values(random: &mut Random) -> Values {
         5..=7 => of_any_count(random),
         _ => {
             let shape = any_shape(random);
-            values_at(&encode(&table(random, shape)))
+            values_at(&encode(&sound_or_bent(random, shape)))
         }
     };
     for _ in 0..*random.pick(&[0, 0, 1, 1, 1, 2]) {

@@ -1,6 +1,7 @@
 //! Values with one number at the ends of its range and a step beyond, with two faults at once, with
 //! numbers missing or too many, and buffers around the table's length.
 
+use super::curves::at_least_pairs;
 use super::edges::{base, late, linked};
 use super::values::{header, number_at, record, table_length};
 use crate::frames::packed_writing;
@@ -79,6 +80,7 @@ pub fn write_edges() -> Vec<Vec<u8>> {
     cases.extend(header_ends().into_iter().map(roomy));
     cases.extend(record_ends().into_iter().map(roomy));
     cases.extend(entry_ends().into_iter().map(roomy));
+    cases.extend(curves().into_iter().map(roomy));
     cases.extend(first_record().into_iter().map(roomy));
     cases.extend(links().into_iter().map(roomy));
     cases.extend(most_callbacks().into_iter().map(roomy));
@@ -184,6 +186,20 @@ fn entry_ends() -> Vec<Values> {
     let largest: Changes = (1..=8).map(|i| (entry(1, i), 59_992 + i as u16)).collect();
     ends.push(with(&single(), &largest));
     ends
+}
+
+/// U7: client 2 with the entry at each position at the least sum of two, for each two positions, and
+/// one above it; the largest entry at such a sum; and faults before the last entry.
+fn curves() -> Vec<Values> {
+    let mut lists = at_least_pairs(0);
+    lists.extend(at_least_pairs(1));
+    lists.extend([vec![3, 9], vec![30_000, 60_000], vec![29_999, 59_999]]);
+    lists.extend([vec![1, 3, 4], vec![4, 7, 11, 15, 16, 17, 18, 19]]);
+    let of_list = |list: &Vec<u64>| {
+        let entries: Vec<u16> = list.iter().map(|&entry| entry as u16).collect();
+        of_records(1, &[head(1, &[513]), head(4, &entries)])
+    };
+    lists.iter().map(of_list).collect()
 }
 
 /// Callback 1 with a second behind it that is right.
@@ -313,12 +329,13 @@ fn seven() -> Values {
     values
 }
 
-/// Faults 8, 9, 10 and 5 of this record of the seven.
+/// Faults 8, 9, 10, 24 and 5 of this record of the seven.
 fn record_faults(index: usize) -> Vec<Changes> {
     vec![
         vec![(at(index, record::KIND), 0)],
         vec![(at(index, record::NEXT), 8)],
         vec![(at(index, record::ENTRIES), 60_001)],
+        vec![(at(index, record::ENTRIES + 1), 601)],
         vec![(at(index, record::ENTRIES + 7), 1)],
     ]
 }
@@ -358,10 +375,14 @@ fn orders() -> Vec<Case> {
         let later = record_faults(2);
         cases.extend(later.iter().map(|second| both(&first, second)));
     }
-    // Kind and next go before m, as before the entries.
+    // Kind and next go before m, as before the entries, and m goes before the sums of two.
     let without_entries = vec![(at(1, record::USED), 0)];
-    let before = &record_faults(1)[..2];
-    cases.extend(before.iter().map(|first| both(first, &without_entries)));
+    let others = &record_faults(1);
+    let others = [&others[0], &others[1], &others[3]];
+    cases.extend(others.map(|other| both(other, &without_entries)));
+    // An entry beyond m is no entry: 5, and not 24.
+    let one_entry = vec![(at(1, record::USED), 1)];
+    cases.push(both(&one_entry, &record_faults(1)[3]));
     cases
 }
 

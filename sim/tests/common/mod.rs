@@ -1,11 +1,11 @@
 //! Small tables for the tests, and the program.
 #![allow(dead_code)]
 
-use sim::generate::tables::{table, Shape};
+use sim::generate::tables::{table, table_before_24, Shape};
 use sim::machine::Tick;
 use sim::random::Random;
 use sim::sheet::analyse;
-use sim::table::{encode, Callback, Kind, Refusal, Table};
+use sim::table::{encode, exceeds_two, Callback, Kind, Refusal, Table};
 use std::io::Write;
 use std::process::{Command, Output, Stdio};
 
@@ -160,6 +160,24 @@ pub fn without_delays(seed: u64) -> bool {
     }
 }
 
+/// Whether some record has fault 24 of U7.
+pub fn has_fault_24(table: &Table) -> bool {
+    let mut callbacks = table.callbacks.iter();
+    callbacks.any(|callback| exceeds_two(&callback.entries))
+}
+
+/// Whether no table had fault 24 that this seed drew for a history before U7, up to the first that
+/// the analyser takes. Such a seed gives what it gave before U7.
+pub fn without_faults_24(seed: u64) -> bool {
+    let mut random = Random::new(seed);
+    loop {
+        let drawn = table_before_24(&mut random, Shape::Small);
+        if has_fault_24(&drawn) || sheet(&drawn).is_ok() {
+            return !has_fault_24(&drawn);
+        }
+    }
+}
+
 /// The timers of edition 1, as a number; 0 for a table of edition 2.
 pub fn timers_first(table: &Table) -> u64 {
     let timers = table.callbacks.iter().filter(|c| c.kind == Kind::Timer);
@@ -177,12 +195,23 @@ pub fn with_timers_first(table: &Table) -> bool {
 /// The table that `sim check` draws for this seed.
 pub fn checked_table(seed: u64) -> Table {
     let mut random = Random::new(seed);
-    let shape = if random.chance(95) {
+    let shape = checked_shape(&mut random);
+    table(&mut random, shape)
+}
+
+/// Whether the table that it drew before U7 had no fault 24, so that the check is what it was.
+pub fn checked_without_faults_24(seed: u64) -> bool {
+    let mut random = Random::new(seed);
+    let shape = checked_shape(&mut random);
+    !has_fault_24(&table_before_24(&mut random, shape))
+}
+
+fn checked_shape(random: &mut Random) -> Shape {
+    if random.chance(95) {
         Shape::Small
     } else {
         Shape::Long
-    };
-    table(&mut random, shape)
+    }
 }
 
 /// A number that stands for a text (FNV-1a), to compare it with one of before.

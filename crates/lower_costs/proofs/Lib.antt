@@ -1,0 +1,2 @@
+-- LowerCostsLaws: at lower costs no window is longer, no bound larger, and no table refused that was accepted.
+pub mod LowerCostsLaws

@@ -1,0 +1,2 @@
+-- NormaliserLaws: the bytes, record by record.
+pub mod NormaliserLaws
