@@ -25,7 +25,7 @@ extern "C" {
 /* The version of this header and of its library. A host is compiled anew where the first number differs; the second rises where
  * something is added, the third where neither is so. */
 #define CUORFELT_VERSION_MAJOR 2
-#define CUORFELT_VERSION_MINOR 0
+#define CUORFELT_VERSION_MINOR 1
 #define CUORFELT_VERSION_PATCH 0
 
 /* Sizes. */
@@ -86,6 +86,7 @@ enum {
     CUORFELT_QUEUE_FULL = 21,
     CUORFELT_WRONG_DELAY = 22,
     CUORFELT_SHORT_BUFFER = 23,
+    CUORFELT_ABOVE_SUM = 24,
     CUORFELT_FAULTY_STATE = 29
 };
 
@@ -150,13 +151,19 @@ size_t cuorfelt_state_length(void);
 /* Reads a table and returns its refusal, or number 0 where it is accepted. */
 cuorfelt_refusal cuorfelt_read(const uint8_t *table, size_t length);
 
+/* Replaces the cost entries of a table in place, once for each table that was made before 24 was a refusal (since 2.1): each of the used entries
+ * becomes the least sum over all ways to split its number of instances, so that 3 and 9 become 3 and 6. What is left is a table that cuorfelt_read
+ * accepts; no other byte changes, and a table without fault 24 does not change at all. No bound grows.
+ * Refusals: those of cuorfelt_read, in its order, without 24. A refusal leaves all bytes as they were. */
+cuorfelt_refusal cuorfelt_normalise(uint8_t *table, size_t length);
+
 /* Writes a table of `count` callbacks, 16 + 32 * count bytes, to the beginning of the buffer, and returns its length. Bytes of the buffer past
  * the table are not touched. What is written is a table that cuorfelt_read accepts, and holds the numbers as they were given, a horizon of 0 too.
  * budget, period, horizon and delay are Q, P, H and Z. `records` has CUORFELT_RECORD_NUMBERS numbers for each callback, in the order of
  * cuorfelt_callback: for an array of these pass &callbacks[0].kind. `numbers` says how many numbers, not bytes, there are. One that is not
  * there reads as 0; those past the last callback are ignored, and must be there all the same if `numbers` counts them. C cuts a number
  * above 65,535 down as it is passed or stored: test for that before.
- * Refusals: those of cuorfelt_read that numbers can meet, in its order (2, 3, 6, 22, 7; for each callback in turn 8, 9, 10, and 5 where an entry
+ * Refusals: those of cuorfelt_read that numbers can meet, in its order (2, 3, 6, 22, 7; for each callback in turn 8, 9, 10, 24, and 5 where an entry
  * beyond the used ones is not 0; 11 to 14), and a number that is too large for its byte is refused like any other wrong one; then 23, the buffer is
  * shorter than the table. A refusal touches no byte of the buffer and returns length 0. */
 cuorfelt_written cuorfelt_write(uint16_t edition, uint16_t count, uint16_t budget, uint16_t period, uint16_t horizon, uint16_t delay,

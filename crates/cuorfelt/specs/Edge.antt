@@ -1,5 +1,5 @@
 -- What a start and a tick on lent bytes give, and what the bytes hold then, for every input (document 01, 'Where each form goes', the edge
--- for C). The reader's edge gives readFault and the analyser's sheetOf and rowOf, as they stand.
+-- for C). The reader's edge gives readFault, the normaliser's normaliseFault and normalised, and the analyser's sheetOf and rowOf, as they stand.
 use mathlib.Core.Bool.{Bool, true, false, not}
 use mathlib.Core.List.{List}
 use Prim.Native.Nat.{ℕ}

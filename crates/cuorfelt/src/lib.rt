@@ -1,4 +1,4 @@
-// The edge for hosts written in C: reader, writer, analyser and machine on numbers and lent slices, the machine's state packed in lent bytes.
+// The edge for hosts written in C: reader, writer, normaliser, analyser and machine on numbers and lent slices, the machine's state packed in lent bytes.
 // include/cuorfelt.h declares what is exported here.
 
 use answers::Outcome;
@@ -15,6 +15,7 @@ ghost use lib.ListN.{length};
 ghost use Rattle.reader.specs.Format.{readFault};
 ghost use Rattle.writer.specs.Writer.{writeOf, bufferAfter};
 ghost use Rattle.writer.specs.Described.{described};
+ghost use Rattle.normaliser.specs.Normaliser.{normaliseFault, normalised};
 ghost use Rattle.sheet.specs.Sheet.{sheetOf, rowOf};
 ghost use Rattle.layout.specs.Layout.{stateLength};
 ghost use Rattle.cuorfelt.specs.Edge.{startFault, stateStarted, noState, tickReply, stateTicked};
@@ -34,6 +35,15 @@ pub extern "C" fn cuorfelt_read(table: &[u8]) -> Refusal
 {
     let reading = reader::read(table);
     reading.refusal
+}
+
+// Replaces the cost entries of a table, read by all rules but 24, by the least sums over the ways to split their positions: number 0, or the
+// refusal, which leaves all bytes as they were.
+#[no_mangle]
+pub extern "C" fn cuorfelt_normalise(table: &mut [u8]) -> Refusal
+    ensures { λ r. ⌜ (r ≡ normaliseFault (now (table .entry))) × (now (table .exit) ≡ normalised (now (table .entry))) ⌝ }
+{
+    normaliser::normalise(table)
 }
 
 // Writes a table into the buffer from its header's numbers and from the records' numbers, fourteen each: its length, or the refusal, which
