@@ -1,11 +1,11 @@
 -- Numbers in bytes: one, and several of one width. Assumes nothing.
 -- get-more: a byte and the rest. past, get-past: behind a prefix. get-le, le-get: a number written and read, read and written.
 -- numbers-snoc, numbers-at: one number more, and one of them. length-run, length-numbers. numbers-run, run-numbers: several numbers written and read, read and written.
--- get-four, le-four: four bytes as the code has them.
+-- numbers-same, numbers-add: of bytes that are the same, and two runs one behind the other. get-four, le-four: four bytes as the code has them.
 use mathlib.Core.Path.{_≡_, refl, sym, ap, ap₂, _∙_}
 use mathlib.Core.List.{List, [], _∷_, _++_, append-assoc, append-nil}
 use Prim.Native.Nat.{ℕ, zero, suc, _≤_, _<_, _+_, _*_, _/_, _%_, _^_}
-use native.Mathlib.Nat.{add-assoc, add-zero, mul-suc, mul-zero, pow-suc, div-lt-iff-lt-mul}
+use native.Mathlib.Nat.{add-assoc, add-zero, zero-add, suc-add, mul-suc, mul-zero, pow-suc, div-lt-iff-lt-mul}
 use native.Mathlib.Numerals.{add-one}
 use native.Mathlib.Omega.{arith}
 use lib.Arith.{lt-one}
@@ -70,6 +70,33 @@ numbers-snoc w b k o zero = let e : o ≡ o + w * 0 = omega (arith, mul-zero w) 
 numbers-snoc w b k o (suc n) =
     let e : o + w + w * n ≡ o + w * suc n = omega (arith, mul-suc w n) in
     ap (λ (l : List ℕ). get w b (k + o) ∷ l) (numbers-snoc w b k (o + w) n ∙ ap (λ (j : ℕ). numbers w b k (o + w) n ++ (get w b (k + j) ∷ [])) e)
+
+-- bytes that are the same hold the same numbers
+get-same : (w : ℕ) (b c : List ℕ) (k : ℕ) → ((i : ℕ) → k ≤ i → i < k + w → getD b i 0 ≡ getD c i 0) → get w b k ≡ get w c k
+get-same zero b c k h = refl
+get-same (suc w) b c k h =
+    get-more w b k
+    ∙ ap₂ (λ (x y : ℕ). x + y * 256) (h k (omega arith) (omega arith)) (get-same w b c (k + 1) (λ i l m. h i (omega arith) (omega arith)))
+    ∙ sym (get-more w c k)
+
+pub numbers-same : (w : ℕ) (b c : List ℕ) (k o n : ℕ) → ((i : ℕ) → k + o ≤ i → i < k + o + w * n → getD b i 0 ≡ getD c i 0)
+    → numbers w b k o n ≡ numbers w c k o n
+unfolding numbers
+numbers-same w b c k o zero h = refl
+numbers-same w b c k o (suc n) h =
+    let more : w * suc n ≡ w * n + w = mul-suc w n in
+    ap₂ _∷_ (get-same w b c (k + o) (λ i l m. h i l (omega arith))) (numbers-same w b c k (o + w) n (λ i l m. h i (omega arith) (omega arith)))
+
+-- two runs, one behind the other
+pub numbers-add : (w : ℕ) (b : List ℕ) (k o m n : ℕ) → numbers w b k o (m + n) ≡ numbers w b k o m ++ numbers w b k (o + w * m) n
+unfolding numbers
+numbers-add w b k o zero n =
+    let e : o ≡ o + w * 0 = omega (arith, mul-zero w) in
+    ap (numbers w b k o) (zero-add n) ∙ ap (λ (j : ℕ). numbers w b k j n) e
+numbers-add w b k o (suc m) n =
+    let e : o + w + w * m ≡ o + w * suc m = omega (arith, mul-suc w m) in
+    ap (numbers w b k o) (suc-add m n)
+    ∙ ap (λ (l : List ℕ). get w b (k + o) ∷ l) (numbers-add w b k (o + w) m n ∙ ap (λ (j : ℕ). numbers w b k (o + w) m ++ numbers w b k j n) e)
 
 pub length-numbers : (w : ℕ) (b : List ℕ) (k o n : ℕ) → length (numbers w b k o n) ≡ n
 unfolding numbers

@@ -1,12 +1,12 @@
--- Laws of over: its length, one place more, two parts one behind the other, the stores that make a part, and what stands behind it. Assumes nothing.
+-- Laws of over: its length, one place more, two parts one behind the other, the stores that make a part, what stands behind it, and each place before and behind it. Assumes nothing.
 use mathlib.Core.Path.{_≡_, refl, sym, ap, ap₂, _∙_}
 use mathlib.Core.List.{List, [], _∷_, _++_, append-assoc, append-nil}
 use Prim.Native.Nat.{ℕ, suc, _≤_, _<_, _+_, _-_}
 use native.Mathlib.Numerals.{add-one}
 use native.Mathlib.Nat.{add-zero}
 use native.Mathlib.Omega.{arith}
-use lib.ListN.{length, take, drop, set, getD, replicate, length-append, length-drop, length-replicate, take-append-drop, drop-of-length-le, replicate-append-replicate}
-use lib.Seq.{drop-cons, set-at, length-take-le, take-at, drop-at, drop-drop, take-suc}
+use lib.ListN.{length, take, drop, set, getD, replicate, length-append, length-drop, length-replicate, take-append-drop, drop-of-length-le, replicate-append-replicate, List·getD-append}
+use lib.Seq.{drop-cons, set-at, length-take-le, take-at, drop-at, drop-drop, take-suc, getD-take, getD-drop}
 use Rattle.lent.specs.Over.{over}
 
 module _ (b : List ℕ) (k : ℕ) where
@@ -133,3 +133,18 @@ module _ (b : List ℕ) (k : ℕ) (vs : List ℕ) (fits : k + length vs ≤ leng
       ∙ ap (drop (j - (k + length vs))) behind
       ∙ drop-drop (j - (k + length vs)) (k + length vs) b
       ∙ ap (λ (i : ℕ). drop i b) e)
+
+  -- each place before the part, and behind it
+  pub over-before : (j : ℕ) → j < k → getD (over b k vs) j 0 ≡ getD b j 0
+  unfolding over
+  over-before j l = List·getD-append (take k b) _ 0 j (omega (arith, length-take-le k b (omega arith))) ∙ getD-take k b j 0 l
+
+  pub over-behind : (j : ℕ) → k + length vs ≤ j → getD (over b k vs) j 0 ≡ getD b j 0
+  over-behind j l =
+      let n : ℕ = k + length vs in
+      let e : k + length vs + (j - (k + length vs)) ≡ j = omega arith in
+      ap (λ (i : ℕ). getD (over b k vs) i 0) (sym e)
+      ∙ sym (getD-drop n (over b k vs) (j - n) 0)
+      ∙ ap (λ (x : List ℕ). getD x (j - n) 0) behind
+      ∙ getD-drop n b (j - n) 0
+      ∙ ap (λ (i : ℕ). getD b i 0) e

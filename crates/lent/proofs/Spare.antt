@@ -1,5 +1,5 @@
 -- Whether a run of bytes is zero goes by each of them, so by what is written and what is kept. Assumes nothing.
--- zeros-at, zeros-all: byte by byte. or-zero, zeros-none, zeros-more: the bytes taken together by `|`. zeros-part: as a list.
+-- zeros-at, zeros-all: byte by byte. zeros-same: of bytes that are the same. or-zero, zeros-none, zeros-more: the bytes taken together by `|`. zeros-part: as a list.
 -- zeros-numbers, numbers-zeros: as a field of single bytes.
 use mathlib.Core.Path.{_≡_, sym, ap, ap₂, _∙_}
 use mathlib.Core.Bool.{Bool, true, _&&_}
@@ -13,7 +13,7 @@ use lib.Bits.{bitOr, or-zero-l, or-add-and, and-le-r}
 use lib.Dec.{eqb}
 use borrow.Author.Tests.{eq-eqb, ne-eqb, eqb-true}
 use Rattle.ranges.specs.Every.{every}
-use Rattle.ranges.proofs.EveryLaws.{every-at, every-all}
+use Rattle.ranges.proofs.EveryLaws.{every-at, every-all, every-same}
 use Rattle.lent.specs.Bytes.{numbers, zeros}
 use Rattle.lent.proofs.Numbers.{numbers-at, length-numbers}
 
@@ -26,6 +26,12 @@ zeros-at b k n i e l = eqb-true _ 0 (every-at (λ i. eqb (getD b (k + i) 0) 0) n
 pub zeros-all : (b : List ℕ) (k n : ℕ) → ((i : ℕ) → i < n → getD b (k + i) 0 ≡ 0) → zeros b k n ≡ true
 unfolding zeros
 zeros-all b k n each = every-all (λ i. eqb (getD b (k + i) 0) 0) n (λ i l. eq-eqb _ 0 (each i l))
+
+-- runs of the same bytes
+pub zeros-same : (b c : List ℕ) (k n : ℕ) → ((i : ℕ) → k ≤ i → i < k + n → getD b i 0 ≡ getD c i 0) → zeros b k n ≡ zeros c k n
+unfolding zeros
+zeros-same b c k n h =
+    every-same (λ i. eqb (getD b (k + i) 0) 0) (λ i. eqb (getD c (k + i) 0) 0) n (λ i l. ap (λ (x : ℕ). eqb x 0) (h (k + i) (omega arith) (omega arith)))
 
 -- ---- the bytes from k up to but not including a place, taken together by `|`
 

@@ -1,2 +1,5 @@
--- NormaliserLaws: the bytes, record by record.
+-- What the functions rest on. NormaliserLaws: the bytes, record by record.
+-- What other crates cite. RecordLaws: a record whose entries are replaced. ByteLaws: the bytes, as the reader sees them.
 pub mod NormaliserLaws
+pub mod RecordLaws
+pub mod ByteLaws

@@ -1,6 +1,6 @@
 -- Laws of tests, and of tests over the numbers below n.
 -- holds, T-holds: a test as a type and as an equation. never-both, flipped, and-holds, or-fails: of one test and of two.
--- within-passed, within-holds: a number in a range. every: every-at, every-all, every-more, every-miss. some: some-hit, some-none, some-miss, some-fewer, some-more.
+-- within-passed, within-holds: a number in a range. every: every-at, every-all, every-more, every-miss, every-same. some: some-hit, some-none, some-miss, some-fewer, some-more.
 use mathlib.Core.Path.{_≡_, refl, sym, ap, ap₂, _∙_, subst}
 use mathlib.Core.Logic.{_⊎_, inl, inr}
 use mathlib.Core.Bool.{Bool, true, false, not, _&&_, _||_, or-true, true≢false}
@@ -71,6 +71,12 @@ module _ (p : ℕ → Bool) where
       go : (b : Bool) → every n p ≡ b → b ≡ false
       go true e = absurd (never-both (p i) (every-at n e i l) f)
       go false e = refl
+
+  -- two tests that agree
+  pub every-same : (q : ℕ → Bool) (n : ℕ) → ((i : ℕ) → i < n → p i ≡ q i) → every n p ≡ every n q
+  unfolding every
+  every-same q zero h = refl
+  every-same q (suc n) h = ap₂ _&&_ (every-same q n (λ i l. h i (omega arith))) (h n (omega arith))
 
   -- one that passes
   pub some-hit : (n i : ℕ) → i < n → p i ≡ true → some n p ≡ true

@@ -3,7 +3,7 @@
 -- links-alike, body-alike, fault-alike: 11 to 14; 5 to 14, 22 and 24; all of them, where 2 and 3 are judged alike.
 use mathlib.Core.Path.{_≡_, refl, ap, ap₂, _∙_}
 use mathlib.Core.Bool.{Bool, true, false, cond, _&&_}
-use mathlib.Core.List.{List}
+use mathlib.Core.List.{List, [], _∷_}
 use Prim.Native.Nat.{ℕ, zero, suc, _+_, _≤_, _<_}
 use native.Mathlib.Omega.{arith}
 use lib.Dec.{eqb, ltb, leb}
@@ -17,7 +17,7 @@ use Rattle.numbers.specs.Numbers
 use Rattle.table.specs.declared.Callback.{Callback}
 use Rattle.table.specs.declared.Refusal.{Refusal}
 use Rattle.table.specs.declared.Table.{Table}
-use Rattle.table.specs.Values.{refuse, accepted, orElse, lowestRefused, tableTicks, callbackAt, nextOf}
+use Rattle.table.specs.Values.{refuse, accepted, orElse, lowestRefused, callbackOf, callbackTicks, tableTicks, callbackAt, nextOf}
 use Rattle.table.specs.Walk.{walk}
 use Rattle.table.specs.Links.{linked, named, isHead, onLoop}
 use Rattle.table.proofs.RefusalLaws.{first-alike}
@@ -25,9 +25,13 @@ use Rattle.link_rules.specs.LinkRules.{arrivalsFault, linksFault}
 use Rattle.rules.specs.Rules.{headFault, supplyFault, recordFault, recordsBy, bodyFault, bodyBy, faultOf}
 use Rattle.rules.proofs.Passed.{HeadPassed, head-passed, RecordPassed, records-passed}
 
--- ---- the links of tables with the same records, none of which names a callback beyond n
+-- ---- the links of tables with records that are the same but for m and the cost entries, none of which names a callback beyond n
 
-module _ (t u : Table) (count : t .count ≡ u .count) (same : (i : ℕ) → i < t .count → callbackAt t i ≡ callbackAt u i)
+-- what the links' rules see of a record
+abbrev pub priceless : Callback → Callback
+priceless c = callbackOf (c .kind ∷ c .next ∷ []) (callbackTicks c) []
+
+module _ (t u : Table) (count : t .count ≡ u .count) (same : (i : ℕ) → i < t .count → priceless (callbackAt t i) ≡ priceless (callbackAt u i))
     (known : (i : ℕ) → i < t .count → nextOf t i ≤ t .count) where
   next-alike : (i : ℕ) → i < t .count → nextOf t i ≡ nextOf u i
   next-alike i l = ap (λ (c : Callback). c .next) (same i l)
@@ -60,7 +64,7 @@ module _ (t u : Table) (count : t .count ≡ u .count) (same : (i : ℕ) → i <
   )
 
   pub links-alike : linksFault t ≡ linksFault u
-  unfolding linksFault
+  unfolding linksFault arrivalsFault
   links-alike =
       ap₂ (lowestRefused Numbers.namedTwice) (lowest-alike _ _ (λ i l. ap (leb 2) (named-alike i)))
       (ap₂ (lowestRefused Numbers.timerNamed) (lowest-alike _ _ (λ i l. ap₂ (λ (x k : ℕ). leb 1 x && eqb k Numbers.timer) (named-alike i) (ap (λ (c : Callback). c .kind) (same i l))))
@@ -89,7 +93,7 @@ module _ (t u : Table) (a : Alike t u) where
   rest-alike : orElse (recordsBy true 0 t (t .count) 0) (linksFault t) ≡ orElse (recordsBy true 0 u (u .count) 0) (linksFault u)
   rest-alike =
       first-alike _ _ _ _ (records-alike (t .count) 0 (omega arith) ∙ ap (λ (n : ℕ). recordsBy true 0 u n 0) (a .count))
-      (λ e. let p = records-passed true 0 t e in links-alike t u (a .count) (λ i l. a .same i (has 0 i) l (p i l)) (λ i l. p i l .next))
+      (λ e. let p = records-passed true 0 t e in links-alike t u (a .count) (λ i l. ap priceless (a .same i (has 0 i) l (p i l))) (λ i l. p i l .next))
 
   pub body-alike : bodyFault false 0 t ≡ bodyFault false 0 u
   unfolding bodyBy

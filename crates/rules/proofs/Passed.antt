@@ -137,7 +137,7 @@ pub record LinksPassed (t : Table) : Type 0 where
   pub loops : lowest (onLoop t) (t .count) ≡ 0
   pub arrivals : lowest (λ i. arrivalsFault (isHead t i) (callbackAt t i)) (t .count) ≡ 0
 
-links-passed : (t : Table) → (linksFault t) .number ≡ 0 → LinksPassed t
+pub links-passed : (t : Table) → (linksFault t) .number ≡ 0 → LinksPassed t
 unfolding linksFault
 links-passed t e =
     let one = lowest-zero Numbers.namedTwice _ _ (λ z. omega arith) e in
@@ -146,7 +146,7 @@ links-passed t e =
     let four = lowest-zero Numbers.wrongArrivals _ accepted (λ z. omega arith) (three .1) in
     record { once = one .0; timers = two .0; loops = three .0; arrivals = four .0 }
 
-links-accepted : (t : Table) → LinksPassed t → linksFault t ≡ accepted
+pub links-accepted : (t : Table) → LinksPassed t → linksFault t ≡ accepted
 unfolding linksFault
 links-accepted t l = lowest-passed _ _ _ (l .once) ∙ lowest-passed _ _ _ (l .timers) ∙ lowest-passed _ _ _ (l .loops) ∙ lowest-passed _ _ _ (l .arrivals)
 

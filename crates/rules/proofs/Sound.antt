@@ -1,5 +1,5 @@
 -- What holds of every table without faults: sound t, from (faultOf t) .number ≡ 0. ticks-le, entries-le: its numbers fit their bytes. Assumes nothing.
--- sound-by: the same of a table that has passed with 24 tested or not. cost-count, cost-entry: what 10 leaves of m and the entries.
+-- sound-by: the same of a table that has passed with 24 tested or not. cost-count, cost-entry, cost-long, used-length, used-rise, used-le: what 10 leaves of m and the entries.
 use mathlib.Core.Path.{_≡_, refl, sym, ap, ap₂, _∙_}
 use mathlib.Core.Logic.{_⊎_, inl, inr}
 use mathlib.Core.Bool.{Bool, true, false, not, _&&_, _||_}
@@ -60,22 +60,22 @@ module _ (c : Callback) (ok : entriesFault c ≡ false) where
       (ltb-true (entry (c .entries) k) (entry (c .entries) (suc k)) (b .0), leb-true (entry (c .entries) (suc k)) longest (b .1))
 
   -- an entry above 0 is one of the list
-  cost-long : c .used ≤ length (c .entries)
+  pub cost-long : c .used ≤ length (c .entries)
   cost-long = go (le-or-lt (c .used) (length (c .entries)))
     where
       go : (c .used ≤ length (c .entries)) ⊎ (length (c .entries) < c .used) → c .used ≤ length (c .entries)
       go (inl h) = h
       go (inr h) = absurd (omega (arith, cost-entry (length (c .entries)) h .0, List·getD-eq-default (c .entries) 0 {n = length (c .entries)} (omega arith)))
 
-  used-length : length (entriesOf c) ≡ c .used
+  pub used-length : length (entriesOf c) ≡ c .used
   used-length = length-take-le (c .used) (c .entries) cost-long
 
-  used-rise : RisingEntries (entriesOf c)
+  pub used-rise : RisingEntries (entriesOf c)
   used-rise k l =
       let h : k < c .used = omega (arith, used-length) in
       omega (arith, entry-take (c .entries) (c .used) k (omega arith), entry-take (c .entries) (c .used) (suc k) h, cost-entry k h .0)
 
-  used-le : (k : ℕ) → entry (entriesOf c) k ≤ longest
+  pub used-le : (k : ℕ) → entry (entriesOf c) k ≤ longest
   used-le zero = omega arith
   used-le (suc k) = go (le-or-lt (c .used) k)
     where
