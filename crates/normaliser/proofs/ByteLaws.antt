@@ -61,7 +61,7 @@ module _ (b : List ℕ) (ok : (normaliseFault b) .number ≡ 0) where
   -- ---- bytes that are not replaced
 
   -- the entries of slot i end within the bytes
-  inside : (i : ℕ) → i < n → recordStart i + 12 + length (run 2 (closed (entriesOf (slot b i)))) ≤ length (closedTo b i)
+  pub inside : (i : ℕ) → i < n → recordStart i + 12 + length (run 2 (closed (entriesOf (slot b i)))) ≤ length (closedTo b i)
   inside i l = omega (arith, length-entries b i, size i l, small i l, length-closed i (omega arith), fits)
 
   -- byte k is none of the entries of the first i records
