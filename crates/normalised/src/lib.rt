@@ -1,0 +1,1 @@
+// Tables with lower costs: definitions and theorems, no functions.
