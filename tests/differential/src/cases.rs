@@ -3,6 +3,7 @@
 use crate::compare::{Comparison, Offer, Outcome};
 use crate::fence::SEED;
 use crate::layout::{pack, LENGTH};
+use crate::old;
 use sim::generate::blocking::timers;
 use sim::generate::damage::{damaged, refused_with, NUMBERS};
 use sim::generate::histories::{outside, within, Style};
@@ -44,7 +45,7 @@ const LENGTHS: [usize; 12] = [0, 1, 2, 16, 527, 528, 632, 639, 641, 656, 1_280, 
 
 type Case = fn(&mut Comparison, &mut Random) -> Outcome;
 
-const CASES: [(&str, Case); 10] = [
+const CASES: [(&str, Case); 12] = [
     ("tables", tables),
     ("longest window", longest_window),
     ("history within the curves", history_within),
@@ -55,6 +56,8 @@ const CASES: [(&str, Case); 10] = [
     ("lengths", lengths),
     ("writings", writings),
     ("timers held up", timers_held_up),
+    ("tables of before U7", old::tables),
+    ("history of before U7", old::histories),
 ];
 
 /// Everything that a seed draws.
@@ -67,12 +70,14 @@ pub fn run(comparison: &mut Comparison, seed: u64) -> Outcome {
     Ok(())
 }
 
-/// Tables with each field at the ends of its range and a step beyond, and
-/// tables whose supply or demand is at its widest.
+/// Tables with each field at the ends of its range and a step beyond, tables
+/// whose supply or demand is at its widest, and cost curves around fault 24, all
+/// short ones among them.
 pub fn edges(comparison: &mut Comparison) -> Outcome {
     let mut random = Random::new(0);
     let tables = sim::generate::edges::edges().into_iter();
-    for bytes in tables.chain(widest_supplies()).chain([widest_demand()]) {
+    let tables = tables.chain(widest_supplies()).chain([widest_demand()]);
+    for bytes in tables.chain(old::edges()) {
         one_table(comparison, &mut random, &bytes).map_err(|what| format!("edges: {what}"))?;
     }
     Ok(())
@@ -82,7 +87,7 @@ fn noise(random: &mut Random, length: usize) -> Vec<u8> {
     (0..length).map(|_| random.bits() as u8).collect()
 }
 
-fn noisy_row(random: &mut Random, places: u64) -> Vec<u16> {
+pub fn noisy_row(random: &mut Random, places: u64) -> Vec<u16> {
     (0..places).map(|_| random.bits() as u16).collect()
 }
 
@@ -102,9 +107,10 @@ fn write_back(comparison: &mut Comparison, bytes: &[u8]) -> Outcome {
     Ok(())
 }
 
-/// Reader, analyser (rows of fewer than sixteen places, and of more) and
-/// start on one table; window and row where the analyser takes it.
-fn one_table(
+/// Reader, analyser (rows of fewer than sixteen places, and of more), start,
+/// writer and the program of U7 on one table; window and row where the analyser
+/// takes it.
+pub fn one_table(
     comparison: &mut Comparison,
     random: &mut Random,
     bytes: &[u8],
@@ -117,6 +123,7 @@ fn one_table(
         let sheet = comparison.analyse(bytes, &noisy_row(random, places))?;
         comparison.start(bytes, &noise(random, LENGTH))?;
         write_back(comparison, bytes)?;
+        old::normalised(comparison, random, bytes)?;
         comparison.totals.tables += 1;
         comparison.totals.accepted += u64::from(sheet.0 != 0);
         comparison.totals.delayed += u64::from(sheet.0 != 0 && bytes[8..10] != [0, 0]);
@@ -143,7 +150,7 @@ fn tables(comparison: &mut Comparison, random: &mut Random) -> Outcome {
 }
 
 /// A subscription of one entry without followers, as often as `distance` lets it come.
-fn lone(cost: u64, period: u64, distance: u64) -> Callback {
+pub fn lone(cost: u64, period: u64, distance: u64) -> Callback {
     Callback {
         kind: Kind::Subscription,
         next: 0,
@@ -262,7 +269,7 @@ fn longest_pause(ticks: &[Tick]) -> u64 {
 
 /// A history within the curves: its replies, and the library's row, are held
 /// to the conclusions of demand 3 too.
-fn kept(
+pub fn kept(
     comparison: &mut Comparison,
     random: &mut Random,
     table: &Table,
@@ -343,7 +350,7 @@ fn heads(table: &Table) -> u16 {
 }
 
 /// An offer that is mostly in range.
-fn any_offer(random: &mut Random, table: &Table) -> Offer {
+pub fn any_offer(random: &mut Random, table: &Table) -> Offer {
     let heads = heads(table);
     Offer {
         mask: random.bits() as u16 & if random.chance(90) { heads } else { u16::MAX },
@@ -461,8 +468,9 @@ fn lengths(comparison: &mut Comparison, random: &mut Random) -> Outcome {
         let mut other = bytes.clone();
         other.resize(bytes.len().saturating_add_signed(change), 0);
         comparison.read(&other)?;
+        comparison.normalise(&other)?;
         comparison.start(&other, &noise(random, LENGTH))?;
-        comparison.totals.lengths += 2;
+        comparison.totals.lengths += 3;
     }
     Ok(())
 }

@@ -4,10 +4,11 @@
 use crate::fence::Fence;
 use crate::layout::{pack, unpack, CACHE, LENGTH, WAITING};
 use library::{
-    cuorfelt_analyse, cuorfelt_read, cuorfelt_start, cuorfelt_tick, cuorfelt_write, Refusal, Reply,
-    Sheet, Written,
+    cuorfelt_analyse, cuorfelt_normalise, cuorfelt_read, cuorfelt_start, cuorfelt_tick,
+    cuorfelt_write, Refusal, Reply, Sheet, Written,
 };
 use sim::machine::{start, Answer, Tick};
+use sim::normalise::normalise;
 use sim::sheet::analyse;
 use sim::table::read;
 use sim::text::hex;
@@ -24,6 +25,7 @@ pub enum Function {
     Start,
     Tick,
     Write,
+    Normalise,
 }
 
 #[derive(Default)]
@@ -52,8 +54,18 @@ pub struct Totals {
     /// Calls of the writer, and the tables that it wrote.
     pub writings: u64,
     pub written: u64,
+    /// Calls of the program of U7.
+    pub normalisings: u64,
+    /// Tables right but for fault 24, those of them that had a sheet before U7, and
+    /// those of these whose sheet has a smaller number now.
+    pub old: u64,
+    pub old_sheets: u64,
+    pub smaller: u64,
+    /// Histories within the curves of such a table, and states that hold one.
+    pub old_histories: u64,
+    pub old_states: u64,
     /// By function, then by number: how often it was refused so.
-    pub refused: [[u64; 30]; 5],
+    pub refused: [[u64; 30]; 6],
 }
 
 /// What is offered to a tick, in the library's widths.
@@ -199,13 +211,41 @@ impl Comparison {
         kept("table", &self.table)
     }
 
-    pub fn read(&mut self, bytes: &[u8]) -> Outcome {
+    pub fn read(&mut self, bytes: &[u8]) -> Outcome<Refusal> {
         self.table.lend(bytes, 1);
         // SAFETY: the fence lends this many bytes.
         let got = unsafe { cuorfelt_read(self.table.pointer(), bytes.len()) };
         self.count(Function::Read, got.number);
         same("reading", got, refusal(read(bytes).err()))?;
-        self.table_kept(bytes)
+        self.table_kept(bytes)?;
+        Ok(got)
+    }
+
+    /// The program of U7; gives the table that it leaves where it takes these
+    /// bytes: one that the reader takes and a second run leaves alone.
+    pub fn normalise(&mut self, bytes: &[u8]) -> Outcome<Option<Vec<u8>>> {
+        let normal = match normalise(bytes) {
+            Err(refused) => {
+                self.normalise_once(bytes, refusal(Some(refused)), bytes)?;
+                return Ok(None);
+            }
+            Ok(normal) => normal,
+        };
+        self.normalise_once(bytes, refusal(None), &normal)?;
+        self.normalise_once(&normal, refusal(None), &normal)?;
+        same("reading what is left", self.read(&normal)?, refusal(None))?;
+        Ok(Some(normal))
+    }
+
+    /// One call of it on bytes that are to become `after`.
+    fn normalise_once(&mut self, bytes: &[u8], wanted: Refusal, after: &[u8]) -> Outcome {
+        self.table.lend(bytes, 1);
+        // SAFETY: the fence lends this many bytes.
+        let got = unsafe { cuorfelt_normalise(self.table.pointer(), bytes.len()) };
+        self.count(Function::Normalise, got.number);
+        self.totals.normalisings += 1;
+        same("normalising", got, wanted)?;
+        self.table_kept(after)
     }
 
     /// The writer in a buffer that holds `lent` before. What is written is read

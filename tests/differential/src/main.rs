@@ -4,6 +4,7 @@ mod cases;
 mod compare;
 mod fence;
 mod layout;
+mod old;
 
 use compare::{Comparison, Function, Outcome, Totals};
 use sim::generate::values::REFUSALS;
@@ -19,7 +20,7 @@ const USAGE: &str = "usage:
 /// The gate's seeds.
 const GATE: std::ops::Range<u64> = 1..211;
 /// What a gate run must have compared.
-const LEAST_TABLES: u64 = 20_000;
+const LEAST_TABLES: u64 = 30_000;
 const LEAST_TICKS: u64 = 1_000_000;
 const LEAST_SECOND: u64 = 200_000;
 const LEAST_DELAYED: u64 = 3_000;
@@ -29,6 +30,11 @@ const LEAST_HELD_UP: u64 = 200;
 const LEAST_MET: u64 = 100;
 const LEAST_FOLDED: u64 = 50_000;
 const LEAST_FOLDED_FULL: u64 = 1_000;
+const LEAST_OLD: u64 = 8_000;
+const LEAST_OLD_SHEETS: u64 = 5_000;
+const LEAST_SMALLER: u64 = 2_000;
+const LEAST_OLD_HISTORIES: u64 = 700;
+const LEAST_OLD_STATES: u64 = 4_000;
 
 fn main() {
     let words: Vec<String> = std::env::args().skip(1).collect();
@@ -87,16 +93,28 @@ fn complete(totals: &Totals) -> Outcome {
     let timers = totals.held_up >= LEAST_HELD_UP && totals.met >= LEAST_MET;
     let folded = totals.folded.iter().all(|&ticks| ticks >= LEAST_FOLDED)
         && totals.folded_full >= LEAST_FOLDED_FULL;
-    if !many || !late || !written || !timers || !folded || totals.second < LEAST_SECOND {
+    let second = totals.second >= LEAST_SECOND;
+    let all = [
+        many,
+        late,
+        written,
+        timers,
+        folded,
+        second,
+        old_enough(totals),
+    ];
+    if all.contains(&false) {
         return Err(format!("too few compared: {}", summary(totals)));
     }
-    let read: Vec<usize> = (0..=14).chain([22]).collect();
+    let before: Vec<usize> = (0..=14).chain([22]).collect();
+    let read = [&before[..], &[24]].concat();
     let values: Vec<usize> = [0].into_iter().chain(REFUSALS.map(usize::from)).collect();
     let numbers = [
         (Function::Write, values),
         (Function::Analyse, [&read[..], &[15, 16, 17]].concat()),
         (Function::Start, [&read[..], &[29]].concat()),
         (Function::Read, read),
+        (Function::Normalise, before),
         (
             Function::Tick,
             [0].into_iter().chain(18..=21).chain([29]).collect(),
@@ -111,9 +129,17 @@ fn complete(totals: &Totals) -> Outcome {
     Ok(())
 }
 
+/// Whether enough had to do with tables of before U7.
+fn old_enough(totals: &Totals) -> bool {
+    let sheets = totals.old_sheets >= LEAST_OLD_SHEETS && totals.smaller >= LEAST_SMALLER;
+    let machines =
+        totals.old_histories >= LEAST_OLD_HISTORIES && totals.old_states >= LEAST_OLD_STATES;
+    totals.old >= LEAST_OLD && sheets && machines
+}
+
 fn summary(totals: &Totals) -> String {
     format!(
-        "{} tables ({} with a sheet, {} of these with a delay), {} ticks ({} on a cache of edition 2; {} of edition 1 and {} of edition 2 fold a beat, {} of these one of a full timer), {} histories ({} starved as long as a delay permits; {} with a timer held up, which meets its bound in {} and that of before U5 in {}), {} damaged states, {} wrong lengths, {} writings ({} of them refused)",
+        "{} tables ({} with a sheet, {} of these with a delay), {} ticks ({} on a cache of edition 2; {} of edition 1 and {} of edition 2 fold a beat, {} of these one of a full timer), {} histories ({} starved as long as a delay permits; {} with a timer held up, which meets its bound in {} and that of before U5 in {}), {} damaged states, {} wrong lengths, {} writings ({} of them refused), {} normalisings ({} tables right but for fault 24; {} of these had a sheet, {} have a smaller one; {} histories within their curves, {} states with one)",
         totals.tables,
         totals.accepted,
         totals.delayed,
@@ -130,7 +156,13 @@ fn summary(totals: &Totals) -> String {
         totals.damaged,
         totals.lengths,
         totals.writings,
-        totals.writings - totals.written
+        totals.writings - totals.written,
+        totals.normalisings,
+        totals.old,
+        totals.old_sheets,
+        totals.smaller,
+        totals.old_histories,
+        totals.old_states
     )
 }
 

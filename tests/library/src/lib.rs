@@ -1,4 +1,4 @@
-//! The six functions of include/cuorfelt.h.
+//! The seven functions of include/cuorfelt.h.
 
 /// Number 0: accepted.
 #[repr(C)]
@@ -44,6 +44,7 @@ pub struct Reply {
 extern "C" {
     pub fn cuorfelt_state_length() -> usize;
     pub fn cuorfelt_read(table: *const u8, length: usize) -> Refusal;
+    pub fn cuorfelt_normalise(table: *mut u8, length: usize) -> Refusal;
     pub fn cuorfelt_write(
         edition: u16,
         count: u16,
