@@ -3,8 +3,12 @@
 
 use crate::plain::every_length::EveryLength;
 use crate::plain::jumps::Jumps;
-use crate::plain::{machine, sheet, writer};
-use library::{cuorfelt_analyse, cuorfelt_tick, cuorfelt_write, Reply, Sheet, Written};
+use crate::plain::{machine, normaliser, sheet, writer};
+use library::{
+    cuorfelt_analyse, cuorfelt_normalise, cuorfelt_tick, cuorfelt_write, Refusal, Reply, Sheet,
+    Written,
+};
+use sim::generate::curves::any_old_table;
 use sim::generate::damage::damaged;
 use sim::generate::states::{sound, spoil};
 use sim::generate::tables::{any_shape, table, Shape};
@@ -117,6 +121,28 @@ pub fn writings(of: &Described, room: usize) -> Result<(), String> {
     Ok(())
 }
 
+pub fn library_normalise(bytes: &mut [u8]) -> Refusal {
+    // SAFETY: lends the slice as it is.
+    unsafe { cuorfelt_normalise(bytes.as_mut_ptr(), bytes.len()) }
+}
+
+pub fn plain_normalise(bytes: &mut [u8]) -> Refusal {
+    normaliser::normalise(bytes)
+}
+
+/// Whether both leave the same table.
+pub fn normalisings(bytes: &[u8]) -> Result<(), String> {
+    let (mut ours, mut theirs) = (bytes.to_vec(), bytes.to_vec());
+    let library = library_normalise(&mut ours);
+    let plain = plain_normalise(&mut theirs);
+    if library != plain || ours != theirs {
+        return Err(format!(
+            "{library:?} {ours:?}, plain {plain:?} {theirs:?} of {bytes:?}"
+        ));
+    }
+    Ok(())
+}
+
 /// The state after a tick that both take to it.
 pub fn ticks(state: &[u8], offer: Offer) -> Result<Vec<u8>, String> {
     let (mut ours, mut theirs) = (state.to_vec(), state.to_vec());
@@ -158,6 +184,10 @@ pub fn drawn() -> Result<u64, String> {
             encode(&table(&mut random, shape))
         };
         sheets(&bytes)?;
+        normalisings(&bytes)?;
+        let old = encode(&any_old_table(&mut random));
+        sheets(&old)?;
+        normalisings(&old)?;
         let small = table(&mut random, Shape::Small);
         let mut state = sound(&mut random, &small);
         if random.chance(30) {
@@ -173,7 +203,7 @@ pub fn drawn() -> Result<u64, String> {
             let cost = *random.pick(&[0, 1, 1, 1, 2, 60_000, 60_001]);
             lent = ticks(&lent, (mask, u8::from(random.chance(80)), cost))?;
         }
-        calls += 11;
+        calls += 14;
     }
     for _ in 0..3_000 {
         let values = values(&mut random);

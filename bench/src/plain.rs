@@ -6,6 +6,7 @@ mod curves;
 pub mod every_length;
 pub mod jumps;
 pub mod machine;
+pub mod normaliser;
 pub mod sheet;
 pub mod table;
 pub mod writer;

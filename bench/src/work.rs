@@ -6,6 +6,7 @@ use crate::plain::sheet::lengths;
 use sim::generate::histories::{within, Style};
 use sim::generate::tables::{table, Shape};
 use sim::machine::{start, Tick};
+use sim::normalise::normal_table;
 use sim::random::Random;
 use sim::sheet::analyse;
 use sim::table::{encode, Callback, Kind, Table, HEADER_BYTES, LARGEST, RECORD_BYTES};
@@ -28,6 +29,8 @@ enum Calls {
     Ticks(Vec<u8>, Vec<Offer>),
     /// A table from its values.
     Writing(Described),
+    /// A table whose entries are lowered in place, in a copy for each call.
+    Normalising(Vec<u8>),
 }
 
 /// Which of them is called.
@@ -65,6 +68,14 @@ impl Work {
         }
     }
 
+    fn normalising(name: &str, table: &Table) -> Work {
+        Work {
+            name: format!("normaliser, {name}"),
+            unit: "table",
+            calls: Calls::Normalising(encode(table)),
+        }
+    }
+
     /// Whether lengths are searched.
     pub fn searches(&self) -> bool {
         matches!(self.calls, Calls::Sheets(_))
@@ -75,7 +86,7 @@ impl Work {
         match &self.calls {
             Calls::Sheets(tables) => tables.len(),
             Calls::Ticks(_, offers) => offers.len(),
-            Calls::Writing(_) => 1,
+            Calls::Writing(_) | Calls::Normalising(_) => 1,
         }
     }
 
@@ -90,6 +101,10 @@ impl Work {
             (Calls::Ticks(state, offers), _) => ticks(state, offers, agree::plain_tick),
             (Calls::Writing(of), Side::Library) => writing(of, agree::library_write),
             (Calls::Writing(of), _) => writing(of, agree::plain_write),
+            (Calls::Normalising(table), Side::Library) => {
+                normalising(table, agree::library_normalise)
+            }
+            (Calls::Normalising(table), _) => normalising(table, agree::plain_normalise),
         }
     }
 
@@ -109,6 +124,7 @@ impl Work {
                 }
             }
             Calls::Writing(of) => agree::writings(of, LONGEST_TABLE).map_err(told)?,
+            Calls::Normalising(table) => agree::normalisings(table).map_err(told)?,
         }
         Ok(self.count() as u64)
     }
@@ -136,6 +152,14 @@ fn writing<R>(of: &Described, write: impl Fn(&Described, &mut [u8]) -> R) {
     black_box(write(black_box(of), black_box(&mut buffer)));
 }
 
+#[inline(always)]
+fn normalising<R>(table: &[u8], normalise: impl Fn(&mut [u8]) -> R) {
+    let mut buffer = [0; LONGEST_TABLE];
+    let lent = &mut buffer[..table.len()];
+    lent.copy_from_slice(black_box(table));
+    black_box(normalise(black_box(lent)));
+}
+
 /// All that is timed, from fixed seeds.
 pub fn all() -> Vec<Work> {
     let mut random = Random::new(7);
@@ -144,6 +168,18 @@ pub fn all() -> Vec<Work> {
     works.extend(repeated());
     works.push(Work::writing("the desk of docs/GUIDE.md", DESK));
     works.push(Work::writing("16 callbacks", &encode(&longest())));
+    works.push(Work::writing(
+        "16 callbacks of 8 entries",
+        &encode(&normal_table(&steep())),
+    ));
+    works.push(Work::normalising(
+        "16 callbacks of 8 entries, 7 of them too large",
+        &steep(),
+    ));
+    works.push(Work::normalising(
+        "16 callbacks of 8 entries, none too large",
+        &normal_table(&steep()),
+    ));
     works
 }
 
@@ -227,6 +263,19 @@ fn longest() -> Table {
         horizon: 0,
         delay: 0,
         callbacks: vec![lone; 16],
+    }
+}
+
+/// Sixteen callbacks of eight entries, each but the first above every sum of two
+/// that make up its position.
+fn steep() -> Table {
+    let callback = |slot: u64| Callback {
+        entries: (1..=8).map(|at| (slot + 1) * at * at).collect(),
+        ..longest().callbacks[0].clone()
+    };
+    Table {
+        callbacks: (0..16).map(callback).collect(),
+        ..longest()
     }
 }
 
@@ -374,6 +423,11 @@ fn repeated() -> Vec<Work> {
     looped_state[..HEADER_BYTES + RECORD_BYTES * PLACES].copy_from_slice(&encode(&looped()));
     vec![
         Work::ticks("16 callbacks, idle", state.clone(), vec![(0, 1, 1); 1_000]),
+        Work::ticks(
+            "16 callbacks of 8 entries, idle",
+            packed(&start(&encode(&normal_table(&steep()))).state),
+            vec![(0, 1, 1); 1_000],
+        ),
         Work::ticks(
             "16 timers, all beats in every tick",
             packed(&start(&encode(&timers_in_turn())).state),

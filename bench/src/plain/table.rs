@@ -62,11 +62,20 @@ pub fn refuse(number: u8, index: u8) -> Refusal {
 }
 
 pub fn read(bytes: &[u8]) -> Result<Table, Refusal> {
+    read_as::<true>(bytes)
+}
+
+/// The same without 24, as the program of U7 reads.
+pub fn read_before_24(bytes: &[u8]) -> Result<Table, Refusal> {
+    read_as::<false>(bytes)
+}
+
+fn read_as<const SUMS: bool>(bytes: &[u8]) -> Result<Table, Refusal> {
     let mut table = header(bytes)?;
     for slot in 0..table.count {
         let start = HEADER + RECORD * slot;
         let record = &bytes[start..start + RECORD];
-        table.callbacks[slot] = callback(record, slot as u8 + 1, table.count)?;
+        table.callbacks[slot] = callback::<SUMS>(record, slot as u8 + 1, table.count)?;
         table.kinds[usize::from(record[0]) - 1] |= 1 << slot;
     }
     links(&mut table)?;
@@ -134,7 +143,15 @@ pub fn rising(cost: &[u16; ENTRIES], used: usize) -> bool {
         && cost[used - 1] <= LARGEST
 }
 
-fn callback(record: &[u8], index: u8, count: usize) -> Result<Callback, Refusal> {
+/// Whether one of the used entries is above the sum of two whose positions add
+/// up to its own.
+#[inline(always)]
+pub fn above_sum(cost: &[u16; ENTRIES], used: usize) -> bool {
+    let sum = |one: usize, other: usize| u32::from(cost[one]) + u32::from(cost[other]);
+    (1..used).any(|at| (0..at.div_ceil(2)).any(|one| u32::from(cost[at]) > sum(one, at - 1 - one)))
+}
+
+fn callback<const SUMS: bool>(record: &[u8], index: u8, count: usize) -> Result<Callback, Refusal> {
     let (kind, next, entries) = (record[0], record[1], record[2]);
     if kind == 0 || usize::from(kind) > KINDS {
         return Err(refuse(8, index));
@@ -149,6 +166,9 @@ fn callback(record: &[u8], index: u8, count: usize) -> Result<Callback, Refusal>
     }
     if !rising(&cost, used) {
         return Err(refuse(10, index));
+    }
+    if SUMS && above_sum(&cost, used) {
+        return Err(refuse(24, index));
     }
     let unused = cost[used..].iter().any(|&entry| entry != 0);
     if unused || record[3] != 0 || !zero(&record[10..12]) || !zero(&record[28..32]) {

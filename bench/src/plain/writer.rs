@@ -1,8 +1,8 @@
 //! The writer.
 
 use super::table::{
-    arrivals, judged_ticks, links, refuse, rising, Callback, Table, EDITION_TWO, ENTRIES, HEADER,
-    KINDS, PLACES, RECORD,
+    above_sum, arrivals, judged_ticks, links, refuse, rising, Callback, Table, EDITION_TWO,
+    ENTRIES, HEADER, KINDS, PLACES, RECORD,
 };
 use library::{Refusal, Written};
 
@@ -76,6 +76,9 @@ fn judged_record(numbers: &[u16; NUMBERS], index: u8, count: usize) -> Result<Ca
     let m = usize::from(used);
     if !rising(&cost, m) {
         return Err(refuse(10, index));
+    }
+    if above_sum(&cost, m) {
+        return Err(refuse(24, index));
     }
     if cost[m..].iter().any(|&entry| entry != 0) {
         return Err(refuse(5, index));
