@@ -1,5 +1,4 @@
 -- In a history within the curves no tick is refused, so the run of the tick is the run of its effect.
---   window-sum         a window's sum is the difference of two counts
 --   activatedTo        activations of the heads of chains, before a time
 --   pure, pure-runs    the counts of the run without refusals, and that they are a Run
 --   none-foreign, orderly   only heads are in the masks
@@ -11,7 +10,7 @@ use mathlib.Core.Logic.{_⊎_, inl, inr}
 use mathlib.Core.Bool.{Bool, true, false, cond, not, _&&_, _||_}
 use mathlib.Core.List.{List}
 use Prim.Native.Nat.{ℕ, zero, suc, _+_, _*_, _-_, _≤_, _<_}
-use native.Mathlib.Nat.{le-refl, add-zero, add-suc, eq-or-lt-of-le}
+use native.Mathlib.Nat.{le-refl, eq-or-lt-of-le}
 use native.Mathlib.Omega.{arith}
 use lib.Dec.{T, eqb, ltb, leb}
 use borrow.Author.Tests.{lt-ltb, lt-leb}
@@ -19,7 +18,7 @@ use lib.ListN.{length, List·getD-eq-default}
 use Rattle.masks.specs.Mask.{has}
 use Rattle.masks.proofs.Slots.{has-zero}
 use Rattle.ranges.specs.Sum.{sum, given, hit}
-use Rattle.ranges.proofs.SumLaws.{sum-le, sum-same, sum-none, le-or-lt}
+use Rattle.ranges.proofs.SumLaws.{sum-le, sum-same, sum-none, sum-window, le-or-lt}
 use Rattle.ranges.proofs.LeastLaws.{lowest-never}
 use Rattle.ranges.proofs.EveryLaws.{holds, T-holds, never-both}
 use Rattle.table.proofs.WalkLaws.{rank}
@@ -58,13 +57,6 @@ use Rattle.guarantee.proofs.Analysed.{Analysed, chains, leads}
 use Rattle.chains.specs.Chains.{headOf}
 use Rattle.link_rules.proofs.Names.{head-unfed}
 use Rattle.windows.specs.Bounds.{arrivalsOf, costOf, supplyOf, windowOf}
-
--- ---- windows
-
-pub window-sum : (f : ℕ → ℕ) (t d : ℕ) → sum (t + d) f ≡ sum t f + over-window f t d
-unfolding sum
-window-sum f t zero = rw add-zero (sym (add-zero _))
-window-sum f t (suc d) = rw add-suc (omega (arith, window-sum f t d))
 
 -- ---- heads
 
@@ -191,7 +183,7 @@ module _ (tb : Table) (analysed : Analysed tb) (h : List Tick) (short : length h
     arrive : (i p d : ℕ) → i < n → p + d ≤ N → activatedTo tb h free i (p + d) ≤ activatedTo tb h free i p + arrivalsOf tb i d
     arrive i p d l k = omega (
       arith,
-      window-sum (λ u. given (activates (tickAt h u) (free u) (headOf tb i)) 1) p d,
+      sum-window (λ u. given (activates (tickAt h u) (free u) (headOf tb i)) 1) p d,
       sum-le (λ u. given (activates (tickAt h (p + u)) (free (p + u)) (headOf tb i)) 1) (λ u. given (activates (tickAt h (p + u)) (real (p + u)) (headOf tb i)) 1) d
           (λ u b. fewer (headOf tb i) (p + u) (omega arith)),
       sum-same (λ u. given (activatedAt tb h (results m₀ h) (headOf tb i) (p + u)) 1) (λ u. given (activates (tickAt h (p + u)) (real (p + u)) (headOf tb i)) 1) d
@@ -201,7 +193,7 @@ module _ (tb : Table) (analysed : Analysed tb) (h : List Tick) (short : length h
     )
 
   supply : (t d : ℕ) → t + d ≤ length h → sum t (λ u. given ((tickAt h u) .supplied) 1) + supplyOf tb d ≤ sum (t + d) (λ u. given ((tickAt h u) .supplied) 1)
-  supply t d k = omega (arith, window-sum (λ u. given ((tickAt h u) .supplied) 1) t d, w .supply t d k)
+  supply t d k = omega (arith, sum-window (λ u. given ((tickAt h u) .supplied) 1) t d, w .supply t d k)
 
   -- starts and their costs, of what ticks say
   abbrev begins : ℕ → ℕ → Result → ℕ
@@ -215,14 +207,14 @@ module _ (tb : Table) (analysed : Analysed tb) (h : List Tick) (short : length h
   unfolding startsAt
   charge i t d l k = rw (gone) (omega (
     arith,
-    window-sum (λ u. price i u (real u)) t d,
+    sum-window (λ u. price i u (real u)) t d,
     sum-same (λ u. given (startsAt (results m₀ h) i (t + u)) ((tickAt h (t + u)) .cost)) (λ u. price i (t + u) (real (t + u))) d
         (λ u _. given-times (startsAt (results m₀ h) i (t + u)) ((tickAt h (t + u)) .cost)),
     w .costs i t d l k,
   ))
     where
       gone : sum (t + d) (λ u. begins i u (real u)) - sum t (λ u. begins i u (real u)) ≡ over-window (λ u. begins i u (real u)) t d
-      gone = omega (arith, window-sum (λ u. begins i u (real u)) t d)
+      gone = omega (arith, sum-window (λ u. begins i u (real u)) t d)
 
   -- the first t ticks in which they agree, and of the next, if there is one, its arrivals
   within : (t N : ℕ) → t ≤ length h → N ≤ length h → N ≤ suc t → Agree t → Within n N t pure (arrivalsOf tb) (costOf tb) (supplyOf tb)

@@ -82,25 +82,25 @@ module _ (b : List ℕ) (ok : (normaliseFault b) .number ≡ 0) where
     carried =
         record {
           arrivals = λ i x D l e f. (
-            let below = subst (λ (n : ℕ). i < n) (count-same b ok) l in
-            let before = w .arrivals i x D below (subst T (same-head t u lowered i) e) f in
-            omega (
-              arith,
-              before,
-              sum-same (λ v. given (activatedAt u h r i (x + v)) 1) (λ v. given (activatedAt t h r i (x + v)) 1) D (λ v _. ap (λ (c : Bool). given c 1) (activated i (x + v) e)),
-              ap (λ (a : ℕ → ℕ → ℕ). a i D) (same-arrivals t u lowered),
-            ));
+              let below = subst (λ (n : ℕ). i < n) (count-same b ok) l in
+              let before = w .arrivals i x D below (subst T (same-head t u lowered i) e) f in
+              omega (
+                arith,
+                before,
+                sum-same (λ v. given (activatedAt u h r i (x + v)) 1) (λ v. given (activatedAt t h r i (x + v)) 1) D (λ v _. ap (λ (c : Bool). given c 1) (activated i (x + v) e)),
+                ap (λ (a : ℕ → ℕ → ℕ). a i D) (same-arrivals t u lowered),
+              ));
           supply = λ x D f. omega (arith, w .supply x D f, ap (λ (s : ℕ → ℕ). s D) (same-supply t u lowered));
           costs = λ i x D l f. (
-            let below = subst (λ (n : ℕ). i < n) (count-same b ok) l in
-            let es = entriesOf (callbackAt t i) in
-            subst (λ (new : List ℕ). sum D (λ v. given (startsAt r i (x + v)) ((tickAt h (x + v)) .cost)) ≤ cost new (sum D (λ v. given (startsAt r i (x + v)) 1)))
-            (sym (entries-closed i below))
-            (runs-within es (startsAt r i) (λ v. (tickAt h v) .cost) (length h)
-            (omega (arith, used-length (callbackAt t i) (ten i below), cost-count (callbackAt t i) (ten i below) .0)) (λ y E g. w .costs i y E below g) x D f));
+              let below = subst (λ (n : ℕ). i < n) (count-same b ok) l in
+              let es = entriesOf (callbackAt t i) in
+              subst (λ (new : List ℕ). sum D (λ v. given (startsAt r i (x + v)) ((tickAt h (x + v)) .cost)) ≤ cost new (sum D (λ v. given (startsAt r i (x + v)) 1)))
+              (sym (entries-closed i below))
+              (runs-within es (startsAt r i) (λ v. (tickAt h v) .cost) (length h)
+              (omega (arith, used-length (callbackAt t i) (ten i below), cost-count (callbackAt t i) (ten i below) .0)) (λ y E g. w .costs i y E below g) x D f));
           heads = λ i x l e. (
-            let was = w .heads i x l e in
-            (subst (λ (n : ℕ). i < n) (sym (count-same b ok)) (was .0), subst T (sym (same-head t u lowered i)) (was .1)));
+              let was = w .heads i x l e in
+              (subst (λ (n : ℕ). i < n) (sym (count-same b ok)) (was .0), subst T (sym (same-head t u lowered i)) (was .1)));
           offers = w .offers;
         }
 

@@ -19,6 +19,7 @@ use Rattle.reader.specs.Format.{recordStart, tableAt, readFault}
 use Rattle.reader.proofs.Accepted.{passed-by, sound-read, record-by}
 use Rattle.sheet.specs.Sheet.{sheetFault, analysisFault}
 use Rattle.sheet.proofs.RefusalLaws.{reader-first}
+use Rattle.guarantee.proofs.Guarantee.{guarantee}
 use Rattle.closure.specs.Split.{LeastSum}
 use Rattle.closure.proofs.ClosureLaws.{closed-least}
 use Rattle.normaliser.specs.Normaliser.{normaliseFault, normalised}
@@ -64,4 +65,5 @@ normalises b bytes ok =
       window = lower-window (tableAt b) (tableAt (normalised b)) (low b ok);
       bounds = lower-bound (tableAt b) (tableAt (normalised b)) (low b ok) (sound-read false b ok);
       accepts = accepts b ok;
+      guaranteed = λ row h e wide short w. guarantee (normalised b) row h (accepts b ok e (length row) wide) short (still-within b ok h _ w);
     }

@@ -3,16 +3,18 @@ use mathlib.Core.Path.{_≡_}
 use mathlib.Core.Logic.{_⊎_, _≢_}
 use mathlib.Core.List.{List}
 use Prim.Native.Nat.{ℕ, _+_, _*_, _≤_, _<_}
-use lib.ListN.{getD}
-use Rattle.numbers.specs.Numbers.{places}
+use lib.ListN.{length, getD}
+use Rattle.numbers.specs.Numbers.{places, mostTicks}
 use Rattle.curves.specs.Cost.{entry}
 use Rattle.table.specs.Values.{accepted, callbackAt, entriesOf}
 use Rattle.reader.specs.Format.{recordStart, tableAt, readFault}
 use Rattle.windows.specs.Bounds.{costOf, windowOf}
 use Rattle.levels.specs.Levels.{boundOf}
-use Rattle.sheet.specs.Sheet.{sheetFault, analysisFault}
-use Rattle.guarantee.specs.History.{Tick, Result}
+use Rattle.sheet.specs.Sheet.{sheetFault, analysisFault, rowOf}
+use Rattle.executor.specs.Start.{startOf}
+use Rattle.guarantee.specs.History.{Tick, Result, results}
 use Rattle.guarantee.specs.Within.{WithinCurves}
+use Rattle.guarantee.specs.Claim.{Guaranteed}
 use Rattle.closure.specs.Split.{LeastSum}
 use Rattle.normaliser.specs.Normaliser.{normaliseFault, normalised}
 
@@ -37,6 +39,10 @@ pub record Normalised (b : List ℕ) : Type 0 where
   pub bounds : windowOf (tableAt b) ≢ 0 → (i : ℕ) → boundOf (tableAt (normalised b)) i ≤ boundOf (tableAt b) i
   -- what the analyser accepted before 24, it accepts then
   pub accepts : (sheetFault (tableAt b)) .number ≡ 0 → (row : ℕ) → places ≤ row → (analysisFault (normalised b) row) .number ≡ 0
+  -- so the sheet of the new table holds for every history within the old curves
+  pub guaranteed : (row : List ℕ) (h : List Tick) → (sheetFault (tableAt b)) .number ≡ 0 → places ≤ length row → length h ≤ mostTicks
+      → WithinCurves (tableAt b) h (results ((startOf (normalised b)) .machine) h)
+      → Guaranteed (tableAt (normalised b)) (rowOf (normalised b) row) h (results ((startOf (normalised b)) .machine) h)
 
 -- the claim, of bytes
 abbrev pub Normalises : Type 0

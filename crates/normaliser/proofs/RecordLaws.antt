@@ -83,10 +83,10 @@ module _ (c : Callback) (ok : entriesFault c ≡ false) where
       same k (inl l) =
           let e : c .used + (k - c .used) ≡ k = omega arith in
           ap (λ (x : ℕ). ltb k (c .used) || eqb x 0) (sym (
-            ap (λ (i : ℕ). getD ((replaced c) .entries) i 0) (sym e)
-            ∙ past (closed es) (drop (c .used) (c .entries)) (c .used) (k - c .used) (closed-length es ∙ used-length c ok)
-            ∙ getD-drop (c .used) (c .entries) (k - c .used) 0
-            ∙ ap (λ (i : ℕ). getD (c .entries) i 0) e))
+          ap (λ (i : ℕ). getD ((replaced c) .entries) i 0) (sym e)
+          ∙ past (closed es) (drop (c .used) (c .entries)) (c .used) (k - c .used) (closed-length es ∙ used-length c ok)
+          ∙ getD-drop (c .used) (c .entries) (k - c .used) 0
+          ∙ ap (λ (i : ℕ). getD (c .entries) i 0) e))
 
   module _ (sub : sumsFault c ≡ false) where
     -- no entry is above the sum of two

@@ -1,8 +1,8 @@
 -- The rules of one record, and of the records in turn. Assumes nothing.
--- cost-none, cost-many, cost-miss, cost-all: rule 10. joins-at, joins-not, joins-well: rule 24, of one pair. unused-miss, unused-all: rule 5, the unused entries. records-stop, records-next, records-end: the records in turn.
+-- cost-none, cost-many, cost-miss, cost-all: rule 10. joins-at, joins-not, joins-well, joins-half: rule 24, of one pair, and of all by half of them. unused-miss, unused-all: rule 5, the unused entries. records-stop, records-next, records-end: the records in turn.
 -- first-refused, first-passed, both-passed: the first of two refusals. lowest-refused, lowest-passed, lowest-zero: the lowest callback that is refused.
 use mathlib.Core.Path.{_≡_, sym, ap, ap₂, _∙_}
-use mathlib.Core.Logic.{_≢_}
+use mathlib.Core.Logic.{_⊎_, inl, inr, _≢_}
 use mathlib.Core.Bool.{Bool, true, false, not, _&&_, _||_, and-false}
 use mathlib.Core.List.{List}
 use Prim.Native.Nat.{ℕ, zero, suc, _+_, _-_, _≤_, _<_}
@@ -10,12 +10,13 @@ use native.Mathlib.Numerals.{add-one}
 use native.Mathlib.Omega.{arith}
 use lib.Dec.{eqb, ltb, leb}
 use lib.ListN.{getD}
-use borrow.Author.Tests.{ne-eqb, lt-ltb, le-ltb, le-leb, lt-leb}
+use borrow.Author.Tests.{ne-eqb, lt-ltb, le-ltb, le-leb, lt-leb, leb-true}
 use Rattle.masks.specs.Mask.{has}
 use Rattle.curves.specs.Cost.{entry}
 use Rattle.curves.proofs.CostLaws.{entry-at}
 use Rattle.ranges.specs.Every.{every}
-use Rattle.ranges.proofs.EveryLaws.{every-all, every-miss}
+use Rattle.ranges.proofs.SumLaws.{le-or-lt}
+use Rattle.ranges.proofs.EveryLaws.{every-at, every-all, every-miss}
 use Rattle.table.specs.declared.Callback.{Callback}
 use Rattle.table.specs.declared.Refusal.{Refusal}
 use Rattle.table.specs.declared.Table.{Table}
@@ -71,6 +72,18 @@ module _ (es : List ℕ) (k j : ℕ) (l : j < k) where
 
   pub joins-well : getD es k 0 ≤ getD es j 0 + getD es (k - j - 1) 0 → joins es k j ≡ true
   joins-well h = joins-at ∙ le-leb _ _ h
+
+-- where no pair of the first half has a lower sum, none has: the order of the two is all one
+pub joins-half : (es : List ℕ) (k h : ℕ) → k ≤ h + h → every h (joins es k) ≡ true → every k (joins es k) ≡ true
+joins-half es k h far e = every-all (joins es k) k (λ j l. go j l (le-or-lt h j))
+  where
+    go : (j : ℕ) → j < k → (h ≤ j) ⊎ (j < h) → joins es k j ≡ true
+    go j l (inr m) = every-at (joins es k) h e j m
+    go j l (inl m) =
+        let i : ℕ = k - j - 1 in
+        let first : suc (k - j - 1) ≡ k - j = omega arith in
+        let second : k - (k - j - 1) ≡ suc j = omega arith in
+        le-leb (entry es (suc k)) (entry es (suc j) + entry es (k - j)) (omega (arith, leb-true (entry es (suc k)) (entry es (suc i) + entry es (k - i)) (every-at (joins es k) h e i (omega arith)), ap (entry es) first, ap (entry es) second))
 
 -- ---- rule 5: an entry beyond m is zero
 

@@ -89,14 +89,15 @@ fn entries_fault(c: Callback) -> bool
     false
 }
 
-// Whether E(k + 1) is above the sum of two entries whose positions add up to k + 1.
+// Whether E(k + 1) is above the sum of two entries whose positions add up to k + 1. The order of the two is all one, so that the first is taken no
+// further than the second.
 fn above_sum(c: Callback, k: u8) -> bool
     requires { ⌜ k < 8 ⌝ }
     ensures { λ r. ⌜ r ≡ not (every k (joins (c .entries) k)) ⌝ }
 {
     let whole = c.entries[k as usize] as u32;
     let mut j: u8 = 0;
-    while j < k {
+    while j + j < k {
         let rest = k - j - 1;
         let sum = c.entries[j as usize] as u32 + c.entries[rest as usize] as u32;
         if whole > sum {
