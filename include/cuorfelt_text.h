@@ -53,6 +53,10 @@ static inline cuorfelt_words cuorfelt_text(unsigned number, unsigned index)
         return cuorfelt_words_of("its m is not 1 to 8, or one of its entries is zero, above 60,000 or not above the one before",
                                  "give as many entries as m says, rising; where two instances cost no more than one, write one tick more "
                                  "or leave the entry out");
+    case CUORFELT_ABOVE_SUM:
+        return cuorfelt_words_of("one of its entries is above the sum of two whose numbers of instances add up to its own",
+                                 "so many instances never cost that much: write the sum or less; a table made before version 2.1 goes once "
+                                 "through normalise");
     case CUORFELT_NAMED_TWICE:
         return cuorfelt_words_of("two records name it as next", "look which callbacks have it as next, and give each its own follower");
     case CUORFELT_TIMER_NAMED:
