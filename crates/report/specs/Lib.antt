@@ -1,2 +1,3 @@
--- Status: how a program that prints a sheet ends.
+-- Status: how a program that prints a sheet ends. Rewrite: how one that normalises a table ends.
 pub mod Status
+pub mod Rewrite

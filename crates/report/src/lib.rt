@@ -1,7 +1,9 @@
-// The sheet of a table as lines on standard output, and the status of a program that prints it.
+// What the programs `bounds` and `normalise` do, and the status with which they end: here the sheet of a table as lines on standard output,
+// in `rewrite` a table with its cost entries normalised.
 // What is read and written no contract can say; what it is written from is the analyser's sheet.
 
 mod input;
+pub mod rewrite;
 
 use libc::STDERR_FILENO;
 use libc::STDOUT_FILENO;
@@ -11,9 +13,9 @@ ghost use mathlib.Core.Path.{_≡_};
 ghost use Prim.Native.Nat.{_≤_};
 ghost use Rattle.numbers.specs.Numbers.{places};
 ghost use Rattle.sheet.specs.Sheet.{sheetOf};
-ghost use Rattle.report.specs.Status.{statusOf, failed, Ends};
+ghost use Rattle.report.specs.Status.{statusBy, statusOf, failed, Ends};
 
-// How a program ends: a whole sheet was printed; a refusal; or input could not be read or output not be written.
+// How a program ends: all that was asked for was written; a refusal; or input could not be read or output not be written.
 pub const WHOLE: u8 = 0;
 
 pub const REFUSED: u8 = 1;
@@ -81,19 +83,25 @@ pub fn report(bytes: &[u8]) -> Printed
     }
 }
 
-// The status of a program that printed this.
-pub fn status(printed: Printed) -> u8
-    ensures { λ r. ⌜ r ≡ statusOf printed ⌝ }
+// The status by whether all was written, and by the refusal.
+fn status_by(written: bool, refusal: Refusal) -> u8
+    ensures { λ r. ⌜ r ≡ statusBy written refusal ⌝ }
 {
-    if !printed.written {
+    if !written {
         return FAILED;
     }
-    let found = printed.sheet;
-    let refusal = found.refusal;
     if refusal.number != 0 {
         return REFUSED;
     }
     WHOLE
+}
+
+// The status of a program that printed this.
+pub fn status(printed: Printed) -> u8
+    ensures { λ r. ⌜ r ≡ statusOf printed ⌝ }
+{
+    let found = printed.sheet;
+    status_by(printed.written, found.refusal)
 }
 
 // The program `bounds` once its input was read, as bytes and whether a read failed behind them: prints their sheet and gives the status to end

@@ -4,27 +4,17 @@ use mathlib.Core.Bool.{Bool, true, false}
 use mathlib.Core.List.{List}
 use Prim.Native.Nat.{ℕ, _≤_}
 use native.Mathlib.Omega.{arith}
-use lib.Dec.{eqb}
 use lib.Seq.{length-take-le}
 use borrow.Author.Needs.{needs}
-use Rattle.report.specs.declared.Printed.{Printed}
-use Rattle.report.specs.Status.{statusOf, whole, refused, failed, Ends}
+use Rattle.report.specs.Status.{failed, Ends}
+use Rattle.report.proofs.StatusLaws.{printed-most}
 use Rattle.report.proofs.cuorfelt_bounds.Statement.{statement}
 use Rattle.report.proofs.cuorfelt_bounds.Tie as tie
-
-status-most : (p : Printed) → statusOf p ≤ failed
-unfolding statusOf
-status-most p = go (p .written) (eqb (p .sheet .refusal .number) 0)
-  where
-    go : (w a : Bool) → elim w [ false ↦ failed | true ↦ elim a [ true ↦ whole | false ↦ refused ] ] ≤ failed
-    go false a = omega arith
-    go true false = omega arith
-    go true true = omega arith
 
 ends-most : (b : List ℕ) (u : Bool) (r : ℕ) → Ends b u r → r ≤ failed
 unfolding Ends
 ends-most b true r e = omega (arith, e)
-ends-most b false r e = subst (λ (s : ℕ). s ≤ failed) (sym (e .2)) (status-most (e .0))
+ends-most b false r e = subst (λ (s : ℕ). s ≤ failed) (sym (e .2)) (printed-most (e .0))
 
 slice-aggregate-conclude : tie.Need-slice-aggregate-conclude
 slice-aggregate-conclude c = sym (length-take-le _ _ (search needs))

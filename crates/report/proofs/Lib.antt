@@ -1,0 +1,2 @@
+-- StatusLaws: there are three statuses.
+pub mod StatusLaws
