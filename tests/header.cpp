@@ -32,6 +32,8 @@ int main()
     expect("write", cuorfelt_write(1, 1, 1, 1, 0, 0, &lone.kind, CUORFELT_RECORD_NUMBERS, nullptr, 0).number, CUORFELT_SHORT_BUFFER);
     expect("write", cuorfelt_write(1, 1, 1, 1, 0, 0, &lone.kind, CUORFELT_RECORD_NUMBERS, table.data(), table.size()).length, 48);
     expect("read", cuorfelt_read(table.data(), 48).number, CUORFELT_ACCEPTED);
+    expect("normalise", cuorfelt_normalise(nullptr, 0).number, CUORFELT_SHORT_HEADER);
+    expect("normalise", cuorfelt_normalise(table.data(), 48).number, CUORFELT_ACCEPTED);
     expect("analyse", cuorfelt_analyse(nullptr, 0, row.data(), row.size()).number, CUORFELT_SHORT_HEADER);
     expect("analyse", cuorfelt_analyse(nullptr, 0, nullptr, 0).number, CUORFELT_SHORT_ROW);
     expect("start", cuorfelt_start(nullptr, 0, state.data(), state.size()).number, CUORFELT_SHORT_HEADER);

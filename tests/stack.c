@@ -22,6 +22,14 @@ static void nothing(void) {}
 
 static void read_table(void) { cuorfelt_read(table, length); }
 
+/* A copy, so that the others get the table as it was. */
+static void normalise(void)
+{
+    static uint8_t copy[CUORFELT_LONGEST_TABLE];
+    memcpy(copy, table, length);
+    cuorfelt_normalise(copy, length);
+}
+
 /* A chain of as many callbacks as the table has. */
 static void write_table(void)
 {
@@ -76,7 +84,7 @@ static uint16_t heads(void)
 
 int main(int words, char **word)
 {
-    size_t reads = 0, writes = 0, analyses = 0, starts = 0, ticks = 0;
+    size_t reads = 0, normalises = 0, writes = 0, analyses = 0, starts = 0, ticks = 0;
     for (int w = 1; w < words; w++) {
         FILE *file = fopen(word[w], "rb");
         if (!file)
@@ -84,6 +92,7 @@ int main(int words, char **word)
         length = fread(table, 1, sizeof table, file);
         fclose(file);
         reads = most(reads, read_table);
+        normalises = most(normalises, normalise);
         writes = most(writes, write_table);
         analyses = most(analyses, analyse);
         starts = most(starts, start);
@@ -91,6 +100,7 @@ int main(int words, char **word)
         for (int t = 0; t < 300; t++)
             ticks = most(ticks, tick);
     }
-    printf("read %zu, write %zu, analyse %zu, start %zu, tick %zu bytes of stack\n", reads, writes, analyses, starts, ticks);
-    return reads > CUORFELT_STACK || writes > CUORFELT_STACK || analyses > CUORFELT_STACK || starts > CUORFELT_STACK || ticks > CUORFELT_STACK;
+    printf("read %zu, normalise %zu, write %zu, analyse %zu, start %zu, tick %zu bytes of stack\n", reads, normalises, writes, analyses, starts, ticks);
+    return reads > CUORFELT_STACK || normalises > CUORFELT_STACK || writes > CUORFELT_STACK || analyses > CUORFELT_STACK || starts > CUORFELT_STACK ||
+           ticks > CUORFELT_STACK;
 }
