@@ -9,12 +9,12 @@ use Rattle.report.specs.Status.{statusBy, statusOf, whole, refused, fail
 
 pub status-most : (w : Bool) (x : Refusal) → statusBy w x ≤ failed
 unfolding statusBy
-status-most w x = go w (eqb (x .number) 0)
+status-most false x = omega arith
+status-most true x = go (eqb (x .number) 0)
   where
-    go : (w a : Bool) → elim w [ false ↦ failed | true ↦ elim a [ true ↦ whole | false ↦ refused ] ] ≤ failed
-    go false a = omega arith
-    go true false = omega arith
-    go true true = omega arith
+    go : (a : Bool) → elim a [ true ↦ whole | false ↦ refused ] ≤ failed
+    go false = omega arith
+    go true = omega arith
 
 pub printed-most : (p : Printed) → statusOf p ≤ failed
 unfolding statusOf
