@@ -136,7 +136,7 @@ pub fn unpack(state: &[u8]) -> Unpacked
     if !lent::all_zero(state, SPARE_START, STATE_LENGTH) {
         return no_state();
     }
-    let reading = reader::read(&state[0..end]);
+    let reading = reader::read_by(&state[0..end], true);
     let r = reading.refusal;
     if r.number != 0 {
         return no_state();

@@ -32,14 +32,14 @@ returns-5 : tie.Need-returns-5
 returns-5 c =
     let b = now (c .before .before .before .before .before .before .before .before .before .before .before .before .before .before .args .state) in
     let own : take (tableEnd b - 0) b ≡ tablePart b = ap (λ (n : ℕ). take n b) (sub-zero (tableEnd b)) in
-    c .no-state5 .ensures ∙ not-laid _ (λ l. c .before .if5 .taken (part-number b (c .before .before .before .before .read .ensures) own ∙ l .read))
+    c .no-state5 .ensures ∙ not-laid _ (λ l. c .before .if5 .taken (part-number b (c .before .before .before .before .read-by .ensures) own ∙ l .read))
 
 returns-6 : tie.Need-returns-6
 unfolding unpacked
 returns-6 c =
     let s = c .before .before .before .before .before .before .before .before .before .before .before .before .before .before .before in
     let b = now (s .args .state) in
-    let read = c .before .before .before .before .before .read .ensures in
+    let read = c .before .before .before .before .before .read-by .ensures in
     let own : take (tableEnd b - 0) b ≡ tablePart b = ap (λ (n : ℕ). take n b) (sub-zero (tableEnd b)) in
     let l : Laid b = record {
       size = c .before .before .before .before .before .before .before .before .before .before .before .before .before .if1 .left;
