@@ -19,7 +19,7 @@ use Rattle.rules.specs.Rules.{entriesFault}
 use Rattle.rules.proofs.Sound.{cost-count, used-length}
 use Rattle.reader.specs.Format.{tableAt}
 use Rattle.reader.proofs.Accepted.{passed-by}
-use Rattle.windows.specs.Bounds.{arrivalsOf, costOf, supplyOf}
+use Rattle.windows.specs.Bounds.{costOf}
 use Rattle.guarantee.specs.History.{Tick, Result, tickAt, activatedAt, startsAt}
 use Rattle.guarantee.specs.Within.{WithinCurves}
 use Rattle.guarantee.proofs.Unrefused.{head-activated}

@@ -6,7 +6,6 @@ use mathlib.Core.List.{List}
 use Prim.Native.Nat.{ℕ, _+_, _*_, _≤_, _<_}
 use native.Mathlib.Omega.{arith}
 use lib.ListN.{length, getD}
-use borrow.Author.Tests.{le-ltb}
 use Rattle.numbers.specs.Numbers.{places}
 use Rattle.lent.specs.Bytes.{numbers, fieldsAt}
 use Rattle.curves.specs.Cost.{entry}
@@ -23,11 +22,11 @@ use Rattle.guarantee.proofs.Guarantee.{guarantee}
 use Rattle.closure.specs.Split.{LeastSum}
 use Rattle.closure.proofs.ClosureLaws.{closed-least}
 use Rattle.normaliser.specs.Normaliser.{normaliseFault, normalised}
-use Rattle.normaliser.proofs.NormaliserLaws.{slot, normalised-all}
+use Rattle.normaliser.proofs.NormaliserLaws.{normalised-all}
 use Rattle.normaliser.proofs.ByteLaws
 use Rattle.normaliser.proofs.Readable.{reads, kept, again}
 use Rattle.lower_costs.proofs.LowerCostsLaws.{lower-window, lower-bound, lower-accepted}
-use Rattle.normalised.specs.Claim.{Normalised, Normalises}
+use Rattle.normalised.specs.Claim.{Normalises}
 use Rattle.normalised.proofs.Lowered.{entries-closed, low, still-within}
 
 module _ (b : List ℕ) (ok : (normaliseFault b) .number ≡ 0) where

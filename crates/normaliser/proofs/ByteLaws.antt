@@ -3,12 +3,12 @@
 -- length-closed, count-closed: so are length and count. slot-closed: each record is that of before, with its entries replaced.
 use mathlib.Core.Path.{_≡_, refl, sym, ap, ap₂, subst, _∙_}
 use mathlib.Core.Logic.{_⊎_, inl, inr}
-use mathlib.Core.Bool.{Bool, true, false}
+use mathlib.Core.Bool.{false}
 use mathlib.Core.List.{List, _++_}
 use Prim.Native.Nat.{ℕ, zero, suc, _+_, _*_, _-_, _≤_, _<_}
 use native.Mathlib.Omega.{arith}
 use lib.ListN.{length, getD, take, drop}
-use lib.Seq.{take-at, drop-at, length-take-le}
+use lib.Seq.{drop-at, length-take-le}
 use Rattle.numbers.specs.Numbers.{places, entryPlaces}
 use Rattle.ranges.proofs.SumLaws.{le-or-lt}
 use Rattle.lent.specs.Bytes.{numbers, run, fieldsAt}
@@ -16,9 +16,8 @@ use Rattle.lent.specs.Over.{over}
 use Rattle.lent.proofs.Replace.{over-before, over-behind}
 use Rattle.lent.proofs.Numbers.{numbers-run, numbers-same, numbers-add, length-numbers}
 use Rattle.lent.proofs.Fields.{below-all}
-use Rattle.curves.specs.Cost.{entry}
 use Rattle.table.specs.declared.Callback.{Callback}
-use Rattle.table.specs.Values.{callbackOf, callbackAt, entriesOf}
+use Rattle.table.specs.Values.{callbackOf, entriesOf}
 use Rattle.rules.specs.Rules.{entriesFault}
 use Rattle.rules.proofs.Sound.{cost-count, used-length, used-le}
 use Rattle.reader.specs.Format.{recordAt, recordStart, tableAt}

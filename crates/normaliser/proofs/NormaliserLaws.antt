@@ -5,12 +5,11 @@
 -- normalised-refused, normalised-all: what the normaliser makes of bytes that are refused, and of others.
 use mathlib.Core.Path.{_≡_, refl, sym, ap, subst, _∙_}
 use mathlib.Core.Logic.{_≢_}
-use mathlib.Core.Bool.{Bool, true, false}
+use mathlib.Core.Bool.{false}
 use mathlib.Core.List.{List, _++_}
 use Prim.Native.Nat.{ℕ, zero, suc, _+_, _*_, _≤_, _<_}
 use native.Mathlib.Numerals.{add-one}
 use native.Mathlib.Omega.{arith}
-use lib.Dec.{eqb}
 use lib.ListN.{length, getD, take, drop}
 use lib.Seq.{take-at, length-take-le}
 use borrow.Author.Tests.{eq-eqb, ne-eqb}
@@ -23,7 +22,6 @@ use Rattle.table.specs.declared.Callback.{Callback}
 use Rattle.table.specs.declared.Refusal.{Refusal}
 use Rattle.table.specs.declared.Table.{Table}
 use Rattle.table.specs.Values.{entriesOf, callbackAt}
-use Rattle.rules.specs.Parts.{Sound}
 use Rattle.reader.specs.declared.Reading.{Reading}
 use Rattle.reader.specs.Format.{recordAt, recordStart, tableAt, readBy}
 use Rattle.reader.proofs.Accepted.{refusal-by, passed-by, table-by, sound-read, record-by}

@@ -5,10 +5,10 @@ use mathlib.Core.Path.{_≡_, refl, sym, ap, ap₂, subst, _∙_}
 use mathlib.Core.Logic.{_⊎_, inl, inr}
 use mathlib.Core.Bool.{Bool, true, false, not, _&&_}
 use mathlib.Core.List.{List, [], _∷_, _++_}
-use Prim.Native.Nat.{ℕ, zero, suc, _+_, _*_, _-_, _%_, _≤_, _<_}
+use Prim.Native.Nat.{ℕ, zero, suc, _+_, _*_, _-_, _≤_, _<_}
 use native.Mathlib.Nat.{mod-lt}
 use native.Mathlib.Omega.{arith}
-use lib.Dec.{eqb, lit<}
+use lib.Dec.{lit<}
 use lib.ListN.{length, getD, take, drop, List·getD-append, List·getD-eq-default}
 use lib.Seq.{take-at, length-take-le}
 use Rattle.numbers.specs.Numbers.{places, longest}
@@ -22,12 +22,11 @@ use Rattle.lent.proofs.Numbers.{past, numbers-same, numbers-add, length-numbers
 use Rattle.lent.proofs.Spare.{zeros-same}
 use Rattle.table.specs.declared.Callback.{Callback}
 use Rattle.table.specs.declared.Refusal.{Refusal}
-use Rattle.table.specs.declared.Table.{Table}
-use Rattle.table.specs.Values.{accepted, callbackAt, entriesOf, tableTicks, nextOf, placed, vacant}
+use Rattle.table.specs.Values.{accepted, callbackAt, entriesOf, tableTicks, placed, vacant}
 use Rattle.table.proofs.PlacedLaws.{placed-length, placed-in, placed-out}
 use Rattle.link_rules.specs.LinkRules.{linksFault}
-use Rattle.rules.specs.Rules.{headFault, supplyFault, sumsFault}
-use Rattle.rules.proofs.Passed.{head-passed, RecordPassedBy, RecordPassed, BodyPassed, links-passed, links-accepted}
+use Rattle.rules.specs.Rules.{headFault, supplyFault}
+use Rattle.rules.proofs.Passed.{head-passed, RecordPassedBy, RecordPassed, links-passed, links-accepted}
 use Rattle.rules.proofs.Alike.{links-alike, priceless}
 use Rattle.reader.specs.Format.{headerClear, recordAt, spareAt, recordStart, tableAt, sparesAt, readFault}
 use Rattle.reader.proofs.Accepted.{ReadPassed, passed-by, zero-by, record-by, read-passed, read-record}
@@ -35,7 +34,7 @@ use Rattle.closure.specs.Closure.{closed}
 use Rattle.normaliser.specs.Normaliser.{normaliseFault, closedTo, normalised}
 use Rattle.normaliser.proofs.NormaliserLaws.{slot, normalised-all}
 use Rattle.normaliser.proofs.RecordLaws.{replaced, replaced-rises, replaced-sums, replaced-unused, entries-same}
-use Rattle.normaliser.proofs.ByteLaws.{m, fits, few, small, length-closed, others, inside, header-byte, record-byte, slot-closed}
+use Rattle.normaliser.proofs.ByteLaws.{m, fits, few, small, length-closed, inside, header-byte, record-byte, slot-closed}
 
 abbrev numberOf : Refusal → ℕ
 numberOf r = r .number

@@ -2,14 +2,14 @@
 -- replaced, replaced-entries: the record, and its entries E(1) to E(m).
 -- replaced-rises, replaced-sums, replaced-unused: 10 and 24 pass, and 5 where it did.
 -- without-24, replaced-same: a record without fault 24 is subadditive, and stays as it is.
-use mathlib.Core.Path.{_≡_, refl, sym, ap, _∙_}
+use mathlib.Core.Path.{_≡_, sym, ap, _∙_}
 use mathlib.Core.Logic.{_⊎_, inl, inr}
-use mathlib.Core.Bool.{Bool, true, false, not, _||_}
+use mathlib.Core.Bool.{false, not, _||_}
 use mathlib.Core.List.{List, _++_}
 use Prim.Native.Nat.{ℕ, suc, _+_, _-_, _≤_, _<_}
 use native.Mathlib.Omega.{arith}
 use lib.Dec.{eqb, ltb}
-use lib.ListN.{length, getD, take, drop, take-append-drop}
+use lib.ListN.{getD, drop}
 use lib.Seq.{getD-drop}
 use borrow.Author.Tests.{not-false, lt-ltb, leb-true, le-leb}
 use Rattle.numbers.specs.Numbers.{entryPlaces}

@@ -1,7 +1,7 @@
 -- `above_sum` meets its contract: the first j ways to split k + 1 in two have no lower sum, and half of them suffice. Assumes nothing.
 use mathlib.Core.Path.{_≡_, refl, ap, sym}
 use mathlib.Core.Bool.{true, not}
-use Prim.Native.Nat.{ℕ, _≤_, _<_, _-_}
+use Prim.Native.Nat.{_≤_, _<_, _-_}
 use native.Mathlib.Omega.{arith}
 use Rattle.ranges.specs.Every.{every}
 use Rattle.ranges.proofs.EveryLaws.{every-more, every-miss}
