@@ -1,4 +1,4 @@
-/* Cuorfelt for hosts in C and C++: the callback table's writer and reader, the timing sheet's analyser, and the executor as a machine
+/* Cuorfelt for hosts in C and C++: the callback table's writer, reader and normaliser, the timing sheet's analyser, and the executor as a machine
  * that moves tick by tick. GUIDE.md explains every word used here, and STATE.md the bytes of a state; cuorfelt_text.h has the
  * words of the refusals. Link libcuorfelt; it needs the C library's memcpy and memset alone, on x86-64.
  *
@@ -7,7 +7,7 @@
  * Memory that is written may not overlap other memory of the same call. Tables and states may lie at any address; a row of
  * uint16_t and the numbers of records lie at an even one, as C has it.
  * Threads. Any number of threads may call at once, if none writes memory that another one's call uses: a state belongs to
- * one call at a time, and so does a row or a buffer; a table may be shared.
+ * one call at a time, and so does a row, a buffer or a table that is normalised; else a table may be shared.
  * Stack. CUORFELT_STACK bytes suffice for any call. cuorfelt_tick was measured at 4,384 bytes, cuorfelt_analyse at 3,280; the rest is
  * for the loader, where it binds memcpy at the first call.
  *
@@ -23,7 +23,7 @@ extern "C" {
 #endif
 
 /* The version of this header and of its library. A host is compiled anew where the first number differs; the second rises where
- * something is added, the third where neither is so. */
+ * something is added or newly refused, the third where neither is so. */
 #define CUORFELT_VERSION_MAJOR 2
 #define CUORFELT_VERSION_MINOR 1
 #define CUORFELT_VERSION_PATCH 0
@@ -151,8 +151,8 @@ size_t cuorfelt_state_length(void);
 /* Reads a table and returns its refusal, or number 0 where it is accepted. */
 cuorfelt_refusal cuorfelt_read(const uint8_t *table, size_t length);
 
-/* Replaces the cost entries of a table in place, once for each table that was made before 24 was a refusal (since 2.1): each of the used entries
- * becomes the least sum over all ways to split its number of instances, so that 3 and 9 become 3 and 6. What is left is a table that cuorfelt_read
+/* Replaces the cost entries of a table in place. Since 2.1; call it once for each table made before, when 24 was no refusal. Each of the used entries
+ * becomes the least sum over all ways to split its number of instances, left whole too, so that 3 and 9 become 3 and 6. What is left is a table that cuorfelt_read
  * accepts; no other byte changes, and a table without fault 24 does not change at all. No bound grows.
  * Refusals: those of cuorfelt_read, in its order, without 24. A refusal leaves all bytes as they were. */
 cuorfelt_refusal cuorfelt_normalise(uint8_t *table, size_t length);

@@ -55,8 +55,9 @@ static inline cuorfelt_words cuorfelt_text(unsigned number, unsigned index)
                                  "or leave the entry out");
     case CUORFELT_ABOVE_SUM:
         return cuorfelt_words_of("one of its entries is above the sum of two whose numbers of instances add up to its own",
-                                 "so many instances never cost that much: write the sum or less; a table made before version 2.1 goes once "
-                                 "through normalise");
+                                 "so many instances never cost that much: if it was measured, an earlier entry is too small, so measure that anew; "
+                                 "otherwise write the least such sum, and look at the entries behind it again; a table made before version 2.1 "
+                                 "goes once through normalise");
     case CUORFELT_NAMED_TWICE:
         return cuorfelt_words_of("two records name it as next", "look which callbacks have it as next, and give each its own follower");
     case CUORFELT_TIMER_NAMED:
