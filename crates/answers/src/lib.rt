@@ -5,7 +5,7 @@ ghost use Rattle.std.specs.Prelude.{◌≡◌, Bool, ℕ};
 ghost use Rattle.answers.specs.Outcome.{finished_of, flag, reply_of};
 
 // The four answers; those that name a callback say its index and the instance, both from 1.
-#[derive(Drop)]
+#[derive(Clone, Copy)]
 pub enum Answer {
     NoSupply,
     Idle,
@@ -14,7 +14,7 @@ pub enum Answer {
 }
 
 // A tick is refused, or answered.
-#[derive(Drop)]
+#[derive(Clone, Copy)]
 pub enum Outcome {
     Refused(table::Refusal),
     Answered(Answer),
@@ -24,7 +24,7 @@ pub enum Outcome {
 // its callback and instance, flags for a start and for a polling point, with the number of callbacks that it put in the cache, and the mask
 // of the timers whose beat was folded.
 #[repr(C)]
-#[derive(Drop)]
+#[derive(Clone, Copy)]
 pub struct Reply {
     pub instance: u32,
     pub number: u8,

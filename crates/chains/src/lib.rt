@@ -8,7 +8,7 @@ use numbers::PLACES;
 use table::Table;
 
 // For each slot the lowest callback that names it, as an index, 0 where none does.
-#[derive(Drop)]
+#[derive(Clone, Copy)]
 struct Fed {
     by: [u8; 16],
 }

@@ -9,7 +9,7 @@ mod ticks;
 
 // The state: the table, and with it the edition; instances waiting and finished of each callback, the cache, the running callback's index
 // (0 where nothing runs), its units left, and the ticks taken.
-#[derive(Drop)]
+#[derive(Clone, Copy)]
 pub struct Machine {
     pub table: table::Table,
     pub waiting: [u16; 16],
@@ -22,7 +22,7 @@ pub struct Machine {
 
 // What a tick gives: the next state, the outcome, and beside it flags for a start and for a polling point, with the number
 // of callbacks that it put in the cache, and the mask of the timers whose beat was folded.
-#[derive(Drop)]
+#[derive(Clone, Copy)]
 pub struct Ticked {
     pub machine: Machine,
     pub outcome: answers::Outcome,
@@ -33,7 +33,7 @@ pub struct Ticked {
 }
 
 // What a start gives: the fresh state, or the refusal beside the state that is zero throughout.
-#[derive(Drop)]
+#[derive(Clone, Copy)]
 pub struct Started {
     pub refusal: table::Refusal,
     pub machine: Machine,

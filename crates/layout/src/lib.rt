@@ -18,7 +18,7 @@ use table::Table;
 pub mod offsets;
 
 // What unpacking gives: whether the bytes are laid out as a state, and the state, a blank one where they are not.
-#[derive(Drop)]
+#[derive(Clone, Copy)]
 pub struct Unpacked {
     pub laid: bool,
     pub machine: Machine,

@@ -9,7 +9,7 @@ use numbers::{CLIENT, SERVICE, SUBSCRIPTION, TIMER};
 use table::Table;
 
 // The slots of each kind.
-#[derive(Drop)]
+#[derive(Clone, Copy)]
 pub struct Kinds {
     pub timers: u16,
     pub subscriptions: u16,

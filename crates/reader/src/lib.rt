@@ -11,7 +11,7 @@ use rules::{body_fault, head_fault};
 use table::{Callback, Refusal, Table, refused};
 
 // What reading gives: the table, or a refusal beside a blank table.
-#[derive(Drop)]
+#[derive(Clone, Copy)]
 pub struct Reading {
     pub refusal: Refusal,
     pub table: Table,

@@ -22,7 +22,7 @@ pub const REFUSED: u8 = 1;
 pub const FAILED: u8 = 2;
 
 // What the analyser returned, and whether all of it was written.
-#[derive(Drop)]
+#[derive(Clone, Copy)]
 pub struct Printed {
     pub sheet: Sheet,
     pub written: bool,

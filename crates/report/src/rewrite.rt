@@ -11,7 +11,7 @@ use libc::{STDERR_FILENO, STDOUT_FILENO};
 use table::Refusal;
 
 // What the normaliser returned, and whether all was written that follows from it.
-#[derive(Drop)]
+#[derive(Clone, Copy)]
 pub struct Rewritten {
     pub refusal: Refusal,
     pub written: bool,

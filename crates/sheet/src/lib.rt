@@ -15,7 +15,7 @@ use table::{Callback, Refusal, Table};
 
 // What the analyser returns: the window, 0 where refused, and the refusal.
 #[repr(C)]
-#[derive(Drop)]
+#[derive(Clone, Copy)]
 pub struct Sheet {
     pub window: u16,
     pub refusal: Refusal,

@@ -8,7 +8,7 @@ pub mod links;
 
 // The number and the callback index that document 01's table of refusals gives; number 0 where nothing is refused.
 #[repr(C)]
-#[derive(Drop)]
+#[derive(Clone, Copy)]
 pub struct Refusal {
     pub number: u8,
     pub index: u8,
@@ -25,7 +25,7 @@ pub fn refused(number: u8, index: u8) -> Refusal
 }
 
 // One record: kind, next, m (how many of the cost entries are used), T, J, d, and the entries E(1) to E(8).
-#[derive(Drop)]
+#[derive(Clone, Copy)]
 pub struct Callback {
     pub kind: u8,
     pub next: u8,
@@ -37,7 +37,7 @@ pub struct Callback {
 }
 
 // The header's numbers, H as given, and sixteen places. Nobody looks at those beyond count; a reading leaves them blank.
-#[derive(Drop)]
+#[derive(Clone, Copy)]
 pub struct Table {
     pub edition: u8,
     pub count: u8,
@@ -49,7 +49,7 @@ pub struct Table {
 }
 
 // Slots that records name as next: at least once, and at least twice.
-#[derive(Drop)]
+#[derive(Clone, Copy)]
 pub struct Names {
     pub once: u16,
     pub twice: u16,

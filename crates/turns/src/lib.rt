@@ -5,7 +5,7 @@ pub mod choosing;
 pub mod steps;
 
 // Whom step 3 chooses (0: nobody), the cache then, whether it polled, and how many the poll took.
-#[derive(Drop)]
+#[derive(Clone, Copy)]
 pub struct Choice {
     pub chosen: u8,
     pub cache: u16,
@@ -14,14 +14,14 @@ pub struct Choice {
 }
 
 // The slots that wait: those gathered at polling points, and the others.
-#[derive(Drop)]
+#[derive(Clone, Copy)]
 pub struct Waits {
     pub polled: u16,
     pub unpolled: u16,
 }
 
 // Whose turn a supplied tick is (0: nobody's), what the choice gave beside it, the units left before the tick, and whether an instance starts.
-#[derive(Drop)]
+#[derive(Clone, Copy)]
 pub struct Turn {
     pub chosen: u8,
     pub cache: u16,
@@ -32,7 +32,7 @@ pub struct Turn {
 }
 
 // What step 4 leaves: the cache, the callback that runs then (0: none), its units left, and the answer.
-#[derive(Drop)]
+#[derive(Clone, Copy)]
 pub struct Step {
     pub cache: u16,
     pub running: u8,

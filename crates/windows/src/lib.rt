@@ -12,7 +12,7 @@ ghost use Rattle.windows.specs.Parts.{most_work, most_demand, head_arrivals, wor
 use table::{Callback, Table};
 
 // Some callbacks of a table: all but those in `below`. These may take `blocking` units from the others; lengths are searched up to `horizon`.
-#[derive(Drop)]
+#[derive(Clone, Copy)]
 pub struct Level {
     pub below: u16,
     pub blocking: u16,

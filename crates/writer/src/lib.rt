@@ -17,7 +17,7 @@ pub mod described;
 
 // What writing gives: the length of the table in bytes, or 0 and the refusal.
 #[repr(C)]
-#[derive(Drop)]
+#[derive(Clone, Copy)]
 pub struct Written {
     pub length: u32,
     pub number: u8,
