@@ -1,6 +1,8 @@
 // What a tick comes to (document 01, 'One tick of the machine'): one of four answers, or a refusal; and the reply that a host gets of it,
 // in numbers.
 
+#![tactic(auto)]
+
 ghost use Rattle.std.specs.Prelude.{◌≡◌, Bool, ℕ};
 ghost use Rattle.answers.specs.Outcome.{finished_of, flag, reply_of};
 

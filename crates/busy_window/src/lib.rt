@@ -1,1 +1,3 @@
 // The busy-window argument: definitions and theorems, no functions.
+
+#![tactic(auto)]

@@ -1,5 +1,7 @@
 // The head of a callback's chain, found back along the names.
 
+#![tactic(auto)]
+
 ghost use Rattle.std.specs.Prelude.{◌≡◌, true, false, cond, ℕ, suc, ◌≤◌, ◌<◌, eqb, get_or};
 ghost use Rattle.numbers.specs.Numbers.{places};
 ghost use Rattle.chains.specs.Chains.{feeder, head_of};

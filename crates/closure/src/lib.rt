@@ -1,5 +1,7 @@
 // Cost entries replaced by the least sums over the ways to split their positions (document 02, U7).
 
+#![tactic(auto)]
+
 ghost use Rattle.std.specs.Prelude.{◌≡◌, ◌++◌, ℕ, suc, ◌+◌, ◌-◌, ◌<◌, ◌≤◌, take, drop};
 ghost use Rattle.numbers.specs.Numbers.{entry_places};
 ghost use Rattle.ranges.specs.Least.{smallest};

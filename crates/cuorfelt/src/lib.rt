@@ -1,6 +1,8 @@
 // The edge for hosts written in C: reader, writer, normaliser, analyser and machine on numbers and lent slices, the machine's state packed in lent bytes.
 // include/cuorfelt.h declares what is exported here.
 
+#![tactic(auto)]
+
 ghost use Rattle.std.specs.Prelude.{◌≡◌, [], ◌∷◌, ℕ, length};
 ghost use Rattle.reader.specs.Format.{read_fault};
 ghost use Rattle.writer.specs.Writer.{write_of, buffer_after};

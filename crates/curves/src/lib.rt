@@ -1,5 +1,8 @@
 // The curves of document 01 as functions on numbers: arrivals, cost, and the inverse of the supply.
 // They assume what the reader has tested of a table, and lengths up to twice the longest horizon.
+
+#![tactic(auto)]
+
 ghost use Rattle.std.specs.Prelude.{◌≡◌, ℕ, ◌<◌, ◌≤◌, ◌*◌, take};
 ghost use Rattle.numbers.specs.Numbers.{longest};
 ghost use Rattle.curves.specs.Parts.{max_length, reach as reach_of, reach_up_to};

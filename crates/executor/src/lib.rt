@@ -2,6 +2,8 @@
 // starting: a machine from a table's bytes. ticks: one tick, its refusals in their order. state: the faults of a state around its table.
 // effect: steps 1 to 4 put together.
 
+#![tactic(auto)]
+
 mod effect;
 pub mod starting;
 mod state;

@@ -1,5 +1,7 @@
 // The faults of row 29 of the refusals, over the values of a state: one slot and all of them, what runs, the table.
 
+#![tactic(auto)]
+
 ghost use Rattle.std.specs.Prelude.{◌≡◌, Bool, ℕ};
 ghost use Rattle.faults.specs.Faults.{table_fault, beyond_wrong, count_wrong, cache_wrong, slot_wrong, slots_fault, run_wrong};
 

@@ -1,5 +1,7 @@
 // The timer beats of a tick that are folded (document 02, U6).
 
+#![tactic(auto)]
+
 ghost use Rattle.std.specs.Prelude.{◌≡◌, ◌&&◌, ℕ, ◌<◌, eqb};
 ghost use Rattle.numbers.specs.Numbers.{places, timer};
 ghost use Rattle.folding.specs.Folding.{unstarted, folded_of};

@@ -3,6 +3,8 @@
 // supplied in one, cost in four, little-endian. A refused start prints `refused`, number, index. A tick prints its place from 0, the
 // answer's number, callback, instance, whether one started, whether it polled and how many it took; or its place, `refused`, number, index.
 
+#![tactic(auto)]
+
 use answers::{Answer, Outcome};
 use executor::{Machine, Ticked};
 use libc::{STDIN_FILENO, STDOUT_FILENO};

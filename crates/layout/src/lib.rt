@@ -1,5 +1,7 @@
 // The machine's state packed in lent bytes and unpacked, as docs/STATE.md lays it out. offsets: its length, and where each part begins.
 
+#![tactic(auto)]
+
 ghost use Rattle.std.specs.Prelude.{◌≡◌, ℕ, ◌+◌, ◌*◌, ◌≤◌, length};
 ghost use Rattle.numbers.specs.Numbers.{places};
 ghost use Rattle.lent.specs.Bytes.{numbers, run};

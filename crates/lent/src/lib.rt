@@ -2,6 +2,8 @@
 // A write replaces just the bytes that it names and keeps every other one: `over` of specs/Over.antt. The caller sees that they lie
 // inside what is lent.
 
+#![tactic(auto)]
+
 ghost use Rattle.std.specs.Prelude.{◌≡◌, [], ◌∷◌, ℕ, ◌<◌, ◌≤◌, ◌+◌, ◌-◌, ◌*◌, length, replicate};
 ghost use Rattle.lent.specs.Bytes.{get, le, run, zeros};
 ghost use Rattle.lent.specs.Over.{over};

@@ -1,6 +1,8 @@
 // The window of all callbacks, and the bound of each (document 01, 'The sheet'): for timers of edition 1 the smaller of two, the other being
 // that of their level (document 02, U5).
 
+#![tactic(auto)]
+
 ghost use Rattle.std.specs.Prelude.{◌≡◌, ℕ, ◌<◌, ◌≤◌, max, min};
 ghost use Rattle.numbers.specs.Numbers.{places, longest};
 ghost use Rattle.priority.specs.Priority.{precedes};

@@ -1,5 +1,7 @@
 // What is wrong with the links of a table and with its arrivals: refusals 11 to 14.
 
+#![tactic(auto)]
+
 ghost use Rattle.std.specs.Prelude.{◌≡◌, true, ℕ, ◌≤◌, ◌<◌};
 ghost use Rattle.masks.specs.Mask.{has};
 ghost use Rattle.ranges.specs.Least.{lowest};

@@ -1,1 +1,3 @@
 // Tables with lower costs: definitions and theorems, no functions.
+
+#![tactic(auto)]

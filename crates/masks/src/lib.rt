@@ -2,6 +2,8 @@
 // A slot is tested, set and cleared by shifts and masks; the slots are counted by the count of ones, and the first is found by
 // trailing zeros. What each function gives back is set out by arithmetic in specs.
 
+#![tactic(auto)]
+
 ghost use Rattle.std.specs.Prelude.{◌≡◌, ℕ, ◌<◌, ◌≤◌, ◌-◌, ◌^◌};
 ghost use Rattle.masks.specs.Mask.{has, with_bit, without_bit, count_of};
 ghost use Rattle.masks.specs.Parts.{except, first_of, first_index};

@@ -1,4 +1,6 @@
 // Writes the table on standard input to standard output with its cost entries normalised (document 02, U7); or `refused`, number, index.
+
+#![tactic(auto)]
 fn main() {
     report::rewrite::cuorfelt_normalise_program();
 }

@@ -1,5 +1,7 @@
 // A table's cost entries replaced by the least sums over the ways to split their positions, in place (document 02, U7).
 
+#![tactic(auto)]
+
 ghost use Rattle.std.specs.Prelude.{◌≡◌, ℕ, ◌+◌, ◌≤◌, length};
 ghost use Rattle.numbers.specs.Numbers.{entry_places, record_length};
 ghost use Rattle.lent.specs.Bytes.{run};

@@ -2,6 +2,8 @@
 // is none; then, where a byte has changed, all of its bytes.
 // Each table stands in a frame: two bytes of length, little-endian, then that many bytes. The end of the input ends the list, and so does a length above 1,024.
 
+#![tactic(auto)]
+
 ghost use Rattle.std.specs.Prelude.{◌≡◌, length};
 
 use libc::{STDIN_FILENO, STDOUT_FILENO};

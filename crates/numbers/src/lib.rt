@@ -1,5 +1,7 @@
 // The numbers of document 01, each under one name: limits, lengths, kinds and refusals. specs/Numbers.antt has the same for the definitions.
 
+#![tactic(auto)]
+
 // Callbacks of a table, and places of a lent row, at most; cost entries of a callback, at most.
 pub const PLACES: u8 = 16;
 

@@ -1,5 +1,7 @@
 // Priority (document 01, 'The callback table'): the callbacks of each kind, and the first in priority of a mask.
 
+#![tactic(auto)]
+
 ghost use Rattle.std.specs.Prelude.{◌≡◌, ℕ, ◌≤◌, ◌<◌};
 ghost use Rattle.numbers.specs.Numbers.{places};
 ghost use Rattle.priority.specs.Parts.{kinds_of, sort_one, foremost_in};

@@ -1,5 +1,7 @@
 // A table from its bytes, little-endian: refusals 1 to 14, 22 and 24, or the table.
 
+#![tactic(auto)]
+
 ghost use Rattle.std.specs.Prelude.{◌≡◌, ℕ, ◌+◌, ◌≤◌, length, get_or};
 ghost use Rattle.numbers.specs.Numbers.{places};
 ghost use Rattle.lent.specs.Bytes.{numbers as numbers_at};

@@ -1,6 +1,8 @@
 // Reads tables on standard input and prints for each, on a line, the number and the callback index of its refusal; `0 0` where it is accepted.
 // Each table stands in a frame: two bytes of length, little-endian, then that many bytes. The end of the input ends the list, and so does a length above 1,024.
 
+#![tactic(auto)]
+
 use libc::{STDIN_FILENO, STDOUT_FILENO};
 
 // The longest frame, and the most of them in a run.

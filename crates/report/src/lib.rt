@@ -2,6 +2,8 @@
 // in `rewrite` a table with its cost entries normalised.
 // What is read and written no contract can say; what it is written from is the analyser's sheet.
 
+#![tactic(auto)]
+
 mod input;
 pub mod rewrite;
 

@@ -1,6 +1,8 @@
 // What is wrong with a table's values: refusals 2 to 14, 22 and 24, first match.
 // What only bytes can show is tested by the reader (4) or comes in beside the table (5).
 
+#![tactic(auto)]
+
 ghost use Rattle.std.specs.Prelude.{◌≡◌, not, ◌&&◌, ℕ, ◌≤◌, ◌<◌};
 ghost use Rattle.ranges.specs.Every.{every};
 ghost use Rattle.numbers.specs.Numbers.{places};

@@ -1,5 +1,7 @@
 // The sheet of document 01: the analyser, its refusals and the lent row.
 
+#![tactic(auto)]
+
 ghost use Rattle.std.specs.Prelude.{◌≡◌, ℕ, ◌≤◌, length};
 ghost use Rattle.lent.specs.Over.{over};
 ghost use Rattle.numbers.specs.Numbers.{places, longest};

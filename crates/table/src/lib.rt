@@ -1,6 +1,8 @@
 // The callback table of document 01: its values, and what its links and kinds mean.
 // links: who is named, heads.
 
+#![tactic(auto)]
+
 ghost use Rattle.std.specs.Prelude.{◌≡◌, ℕ};
 ghost use Rattle.table.specs.Values.{refuse, blank_table, horizon_of};
 

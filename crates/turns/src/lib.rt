@@ -1,6 +1,8 @@
 // Whose turn a supplied tick is, and what it leaves of it (document 01, 'One tick of the machine').
 // choosing: step 3, whom it chooses where nothing runs. steps: step 3 with what runs, and step 4, the counts aside.
 
+#![tactic(auto)]
+
 pub mod choosing;
 pub mod steps;
 

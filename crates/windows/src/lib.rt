@@ -2,6 +2,8 @@
 // those above it (document 02, U5).
 // The functions ask for a table without faults, with the head of each slot's chain (Headed of specs/Parts.antt).
 
+#![tactic(auto)]
+
 ghost use Rattle.std.specs.Prelude.{◌≡◌, ℕ, ◌<◌, ◌≤◌, ◌-◌, max, false};
 ghost use Rattle.masks.specs.Mask.{has};
 ghost use Rattle.numbers.specs.Numbers.{longest};

@@ -1,6 +1,8 @@
 // A table's bytes from its values: the refusals 2 to 14 and 22 that the reader gives, then 23, or the table in a lent buffer.
 // described: a table given as plain numbers, as hosts written in C do.
 
+#![tactic(auto)]
+
 ghost use Rattle.std.specs.Prelude.{◌≡◌, ℕ, ◌+◌, ◌≤◌, length};
 ghost use Rattle.numbers.specs.Numbers.{places, entry_places, header_length, record_length};
 ghost use Rattle.lent.specs.Bytes.{field_bytes};

@@ -3,6 +3,8 @@
 // Each table stands in a frame: two bytes of length, little-endian, then that many bytes. In them stand numbers of two bytes: the buffer's length, the six
 // of the header, those of the records; one that is not there is 0. The end of the input ends the list, and so does a length above 1,024.
 
+#![tactic(auto)]
+
 ghost use Rattle.std.specs.Prelude.{◌*◌, ◌≤◌, length};
 
 use libc::{STDIN_FILENO, STDOUT_FILENO};

@@ -1,10 +1,6 @@
 -- The count of ones goes over the halves of the mask, count_of over its slots: the same number for a mask below 2 ^ 16.
 use Rattle.masks.proofs.Counting.{ones_count}
-use Rattle.masks.proofs.count.Statement.{statement}
-use Rattle.masks.proofs.count.Tie as tie
+use Rattle.masks.proofs.count.Goals as goal
 
-returns : tie.Need-returns
+pub returns : goal.returns
 returns c = ones_count 16 c.args.mask c.ranges.mask.fits
-
-pub count_spec : {M : Type 1} → statement M
-count_spec = tie.close (tie.spec returns)

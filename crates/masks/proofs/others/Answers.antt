@@ -5,20 +5,16 @@ use native.Mathlib.Omega.{arith}
 use lib.Bits.{bit_and}
 use Rattle.masks.proofs.Operators.{and_not, one_shl_32}
 use borrow.Author.Rules.{rules}
-use Rattle.masks.proofs.others.Statement.{statement}
-use Rattle.masks.proofs.others.Tie as tie
+use Rattle.masks.proofs.others.Goals as goal
 
-sub-all : tie.Need-overflow-sub-all
-sub-all c = omega (arith, one_shl_32 c.args.n c.requires)
+pub overflow_sub-all : goal.overflow_sub-all
+overflow_sub-all c = omega (arith, one_shl_32 c.args.n c.requires)
 
-cast-all : tie.Need-overflow-cast-all
-cast-all c = omega (arith, one_shl_32 c.args.n c.requires)
+pub overflow_cast-all : goal.overflow_cast-all
+overflow_cast-all c = omega (arith, one_shl_32 c.args.n c.requires)
 
-returns : tie.Need-returns
+pub returns : goal.returns
 returns c =
     let a = c.args in
     let l = one_shl_32 a.n c.requires in
     ap (λ (x : ℕ). bit_and (x - 1) (65535 - a.mask)) l.0 ∙ and_not 16 _ a.mask (omega (arith, l)) c.ranges.mask.fits
-
-pub others-spec : {M : Type 1} → statement M
-others-spec = tie.close (tie.spec (λ c. search rules) sub-all cast-all returns)

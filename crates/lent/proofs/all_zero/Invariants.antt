@@ -1,0 +1,15 @@
+-- What the bytes passed so far give together is zero where each of them is.
+use mathlib.Core.Path.{◌≡◌, ap, ◌∙◌}
+use Prim.Native.Nat.{◌≤◌, ◌-◌}
+use lib.Dec.{eqb}
+use Rattle.lent.specs.Bytes.{zeros}
+use Rattle.lent.proofs.Spare.{zeros-none, zeros_more}
+use native.Mathlib.Omega.{arith}
+use borrow.Author.Rules.{rules}
+use Rattle.lent.proofs.all_zero.Given as goal
+
+abbrev pub invariant-loop-i : goal.invariant-loop-i
+invariant-loop-i l = (l.from ≤ l.i) × (l.i - l.from ≤ l.to - l.from) × (eqb l.any 0 ≡ zeros l.b l.from (l.i - l.from))
+
+abbrev pub decreases-loop-i : goal.decreases-loop-i
+decreases-loop-i l = l.to - l.i

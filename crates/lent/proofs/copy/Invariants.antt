@@ -1,0 +1,17 @@
+-- After i steps the first i bytes are in their places, and every other byte is as it was.
+use mathlib.Core.Path.{◌≡◌, sym, ap, ◌∙◌}
+use mathlib.Core.List.{List}
+use Prim.Native.Nat.{ℕ, ◌≤◌, ◌-◌, ◌+◌}
+use lib.ListN.{length, take, set, get_or}
+use lib.Seq.{take_all}
+use Rattle.lent.specs.Over.{over}
+use Rattle.lent.proofs.Replace.{over_nil, over-take, over-take-length}
+use native.Mathlib.Omega.{arith}
+use borrow.Author.Rules.{rules}
+use Rattle.lent.proofs.copy.Given as goal
+
+abbrev pub invariant-loop-i : goal.invariant-loop-i
+invariant-loop-i l = (l.i ≤ length l.from) × (l.b ≡ over l.initial.b l.at (take l.i l.from))
+
+abbrev pub decreases-loop-i : goal.decreases-loop-i
+decreases-loop-i l = length l.from - l.i

@@ -1,0 +1,11 @@
+-- A mask of sixteen bits that is not 0 has a first slot, below sixteen.
+use native.Mathlib.Omega.{arith}
+use borrow.Author.Rules.{rules}
+use Rattle.masks.proofs.Search.{first_below}
+use Rattle.masks.proofs.lowest.Goals as goal
+
+pub overflow_cast-result : goal.overflow_cast-result
+overflow_cast-result c = omega (arith, first_below c.before.args.mask c.before.ranges.mask.fits c.before.requires)
+
+pub returns : goal.returns
+returns c = omega (arith, first_below c.before.args.mask c.before.ranges.mask.fits c.before.requires)
