@@ -30,10 +30,10 @@ use Rattle.busy_window.specs.Bound.{Covers}
 pub shorter : (n N M b : ℕ) (c : Counts) → M ≤ N → Run n N b c → Run n M b c
 shorter n N M b c l r = record {
   fresh = r.fresh;
-  activated_up = λ i t k h. r.activated-up i t k (omega arith);
-  finished_up = λ i t k h. r.finished-up i t k (omega arith);
+  activated_up = λ i t k h. r.activated_up i t k (omega arith);
+  finished_up = λ i t k h. r.finished_up i t k (omega arith);
   begun = λ i t k h. r.begun i t k (omega arith);
-  one_open = λ i t k h. r.one-open i t k (omega arith);
+  one_open = λ i t k h. r.one_open i t k (omega arith);
   done = λ i t k h. r.done i t k (omega arith);
   offered = λ i t k h. r.offered i t k (omega arith);
   left = λ i t k h. r.left i t k (omega arith);
@@ -43,10 +43,10 @@ shorter n N M b c l r = record {
 
 module _ (n N b : ℕ) (c : Counts) (r : Run n N b c) where
   pub finished_mono : (i t u : ℕ) → i < n → t ≤ u → u ≤ N → c.finished i t ≤ c.finished i u
-  finished_mono i t u l = mono_upto (c.finished i) N (λ x k. r.finished-up i x l k) t u
+  finished_mono i t u l = mono_upto (c.finished i) N (λ x k. r.finished_up i x l k) t u
 
   pub activated_mono : (i t u : ℕ) → i < n → t ≤ u → u ≤ N → c.activated i t ≤ c.activated i u
-  activated_mono i t u l = mono_upto (c.activated i) N (λ x k. r.activated-up i x l k) t u
+  activated_mono i t u l = mono_upto (c.activated i) N (λ x k. r.activated_up i x l k) t u
 
   -- in ticks of which each ends with something waiting, every supplied one does a unit
   pub works : (t d : ℕ) → t + d ≤ N → Busy n c t (t + d)
@@ -57,7 +57,7 @@ module _ (n N b : ℕ) (c : Counts) (r : Run n N b c) where
       last : Open n c (suc (t + d))
           → c.supplied (suc (t + d)) + (sum n (λ j. c.units j (t + d)) + c.other (t + d))
           ≤ c.supplied (t + d) + (sum n (λ j. c.units j (suc (t + d))) + c.other (suc (t + d)))
-      last w = r.conserves w.0 (t + d) w.1 (omega arith) (omega (arith, r.finished-up w.0 (t + d) w.1 (omega arith), w.2))
+      last w = r.conserves w.0 (t + d) w.1 (omega arith) (omega (arith, r.finished_up w.0 (t + d) w.1 (omega arith), w.2))
 
   -- time 0 is quiet, so each time has a last quiet time before it
   pub last_quiet : (v : ℕ) → v ≤ N → LastQuiet n c v
@@ -142,7 +142,7 @@ module _ (n N : ℕ) (c : Counts) (a e : ℕ → ℕ → ℕ) (s : ℕ → ℕ) 
           rw same at (w.arrive i x.0 d l (omega arith)),
           x.2 i l,
           finished_mono n M b c r i x.0 t l x.1 ht,
-          mono_upto (a i) W (λ k _. cv.a-up i k l) d W (omega (arith, recent x.0 t ht x.2 x.3)) (le_refl W),
+          mono_upto (a i) W (λ k _. cv.a_up i k l) d W (omega (arith, recent x.0 t ht x.2 x.3)) (le_refl W),
         )
           where
             d : ℕ
@@ -209,5 +209,5 @@ module _ (n N : ℕ) (c : Counts) (a e : ℕ → ℕ → ℕ) (s : ℕ → ℕ) 
         most t D i m q p d g = split (ℕ_discrete i x)
           where
             split : Dec (i ≡ x) → c.started i (t + D) ≤ c.finished i t + limit a x (v - t) D i
-            split (yes z) = rw z (rw limit_own (omega (arith, own t q p, r.one-open x (t + D) l d)))
+            split (yes z) = rw z (rw limit_own (omega (arith, own t q p, r.one_open x (t + D) l d)))
             split (no z) = rw (limit_other a x (v - t) D i z) (omega (arith, r.begun i (t + D) m d, w.arrive i t D m (omega arith), q i m))

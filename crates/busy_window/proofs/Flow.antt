@@ -51,7 +51,7 @@ module _ (n M : ℕ) (feeds : ℕ → ℕ → Bool) (v : Events) (z : States) (l
   -- what came in is what waits and what has finished
   pub inflow : (i t : ℕ) → i < n → t ≤ M → z.waiting i t + sum t (v.finishes i) ≡ sum t (v.arrives i) + fed feeds n (λ p. sum t (v.finishes p)) i
   unfolding sum
-  inflow i zero k h = omega (arith, l.fresh-waiting i k, fed_zero feeds n i)
+  inflow i zero k h = omega (arith, l.fresh_waiting i k, fed_zero feeds n i)
   inflow i (suc t) k h = omega (
     arith,
     inflow i t k (omega arith),
@@ -62,7 +62,7 @@ module _ (n M : ℕ) (feeds : ℕ → ℕ → Bool) (v : Events) (z : States) (l
   -- what started is what has finished and what runs
   pub open_count : (i t : ℕ) → i < n → t ≤ M → sum t (v.starts i) ≡ sum t (v.finishes i) + z.running i t
   unfolding sum
-  open_count i zero k h = omega (arith, l.fresh-running i k)
+  open_count i zero k h = omega (arith, l.fresh_running i k)
   open_count i (suc t) k h = omega (arith, open_count i t k (omega arith), l.turn i t k h)
 
   -- the cost of what started is what was done and what is left
@@ -72,7 +72,7 @@ module _ (n M : ℕ) (feeds : ℕ → ℕ → Bool) (v : Events) (z : States) (l
   work_count i (suc t) k h = omega (arith, work_count i t k (omega arith), l.work i t k h)
 
   pub running_le : (i t : ℕ) → i < n → t ≤ M → z.running i t ≤ 1
-  running_le i zero k h = omega (arith, l.fresh-running i k)
+  running_le i zero k h = omega (arith, l.fresh_running i k)
   running_le i (suc t) k h = omega (arith, l.clear i t k h)
 
   -- what has finished by t, with its cost, as what had started before t₁

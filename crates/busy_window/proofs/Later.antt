@@ -37,7 +37,7 @@ module _ (n N : ℕ) (c : Counts) (a e : ℕ → ℕ → ℕ) (s : ℕ → ℕ) 
         rw zero-add at (w.arrive i 0 (suc t) l (omega arith)),
         r.fresh i l,
         finished_mono n M b c r i 0 t l (omega arith) ht,
-        mono_upto (a i) R (λ x _. cv.a-up i x l) (suc t) R k (le_refl R),
+        mono_upto (a i) R (λ x _. cv.a_up i x l) (suc t) R k (le_refl R),
       )
       go (inr k) = omega (arith, rw same at (w.arrive i (suc t - R) R l (omega arith)), settled (suc t - R) t ht (omega arith))
         where

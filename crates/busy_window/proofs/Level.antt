@@ -50,10 +50,10 @@ module _ (n : ℕ) (k : ℕ → Bool) (c : Counts) where
   unfolding only
   set-run N b b' r blocked = record {
     fresh = λ i l. given_up (k i) (r.fresh i l);
-    activated_up = λ i t l h. given_up (k i) (r.activated-up i t l h);
-    finished_up = λ i t l h. given_up (k i) (r.finished-up i t l h);
+    activated_up = λ i t l h. given_up (k i) (r.activated_up i t l h);
+    finished_up = λ i t l h. given_up (k i) (r.finished_up i t l h);
     begun = λ i t l h. given_up (k i) (r.begun i t l h);
-    one_open = λ i t l h. one (k i) (r.one-open i t l h);
+    one_open = λ i t l h. one (k i) (r.one_open i t l h);
     done = λ i t l h. (let x = r.done i t l h in (x.0, x.1, ap (given (k i)) x.2, given_up (k i) x.3));
     offered = λ i t l h. given_up (k i) (r.offered i t l h);
     left = λ i t l h. given_strict (k i) (r.left i t l h);
@@ -92,7 +92,7 @@ module _ (n : ℕ) (k : ℕ → Bool) (c : Counts) where
         cost false f x y p q l = omega arith
 
   pub set_rising : (a e : ℕ → ℕ → ℕ) → Rising n a e → Rising n (arrivals_only k a) e
-  set_rising a e cv = record { a_up = λ i d l. given_up (k i) (cv.a-up i d l); e_up = cv.e_up }
+  set_rising a e cv = record { a_up = λ i d l. given_up (k i) (cv.a_up i d l); e_up = cv.e_up }
 
   -- the bound of x, one of the set, over the demand of the set
   module _ (N : ℕ) (a e : ℕ → ℕ → ℕ) (s : ℕ → ℕ) (M : ℕ) (fits : M ≤ N) (b b' : ℕ) (r : Run n M b c) (w : Within n N M c a e s) (cv : Rising n a e) (blocked : Blocked M b')

@@ -22,7 +22,7 @@ limit_other a x A D j p = rw (ne_eqb j x p, limit)
 module _ (n : ℕ) (a e : ℕ → ℕ → ℕ) (up : Rising n a e) where
   -- a longer window holds no fewer arrivals
   pub arrivals_upto : (i d D : ℕ) → i < n → d ≤ D → a i d ≤ a i D
-  arrivals_upto i d D l h = mono_upto (a i) D (λ t _. up.a-up i t l) d D h (le_refl D)
+  arrivals_upto i d D l h = mono_upto (a i) D (λ t _. up.a_up i t l) d D h (le_refl D)
 
   -- more instances cost no less
   pub cost_upto : (i m m' : ℕ) → i < n → m ≤ m' → e i m ≤ e i m'
@@ -33,7 +33,7 @@ module _ (n : ℕ) (a e : ℕ → ℕ → ℕ) (up : Rising n a e) where
 
   -- in a longer window the demand of all does not fall
   pub whole_up : (D : ℕ) → demand n e (λ i. a i D) ≤ demand n e (λ i. a i (suc D))
-  whole_up D = demand-le (λ i. a i D) (λ i. a i (suc D)) (λ i l. up.a-up i D l)
+  whole_up D = demand-le (λ i. a i D) (λ i. a i (suc D)) (λ i l. up.a_up i D l)
 
   -- as offset and length grow, no fewer instances are charged
   pub limit_up : (x A B D E i : ℕ) → A ≤ B → D ≤ E → i < n → limit a x A D i ≤ limit a x B E i

@@ -101,7 +101,7 @@ module _ (m : Machine) (ok : Valid m) (cost : ℕ) (priced : (1 ≤ cost) × (co
       somebody i q = ne_eqb x.chosen 0 (λ z. omega arith)
 
       kinds : (i : ℕ) → i < m.table.count → (timer ≤ kind_of m.table i) × (kind_of m.table i ≤ client)
-      kinds i l = (let so = table_sound m.table ok.table in (so.kind-from i l, so.kind-to i l))
+      kinds i l = (let so = table_sound m.table ok.table in (so.kind_from i l, so.kind_to i l))
 
   pub turned : Turned m cost (turn_in m cost)
   unfolding turn_of

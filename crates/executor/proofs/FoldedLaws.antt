@@ -56,7 +56,7 @@ module _ (m : Machine) (ok : Valid m) (mask cost : ℕ) (priced : (1 ≤ cost) �
     not_next zero e q = absurd (omega arith)
     not_next (suc p) e q =
         let l = did.whose p e in
-        head_unfed m.table i (so.timer-head i (omega (arith, so.names p l)) timed) p l (next_link m.table p i q)
+        head_unfed m.table i (so.timer_head i (omega (arith, so.names p l)) timed) p l (next_link m.table p i q)
 
     pub full_other : full m mask supplied cost ≢ suc i
     unfolding full full_with

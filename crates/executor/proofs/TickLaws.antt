@@ -4,7 +4,7 @@
 --   tick_faulty, tick_spent, tick_cost, tick_foreign, tick_admitted    29, 18, 19, 20, and what follows
 use mathlib.Core.Path.{◌≡◌, refl, sym, subst, ap, ap₂, ◌∙◌}
 use mathlib.Core.Logic.{◌≢◌}
-use mathlib.Core.Bool.{Bool, true, false, and_false}
+use mathlib.Core.Bool.{Bool, true, false, and-false}
 use Prim.Native.Nat.{ℕ, zero, suc, ◌-◌, ◌≤◌, ◌<◌}
 use native.Mathlib.Omega.{arith}
 use lib.Dec.{leb}
@@ -150,7 +150,7 @@ pub cost-none : (cost : ℕ) → cost ≡ 0 → within 1 Numbers.longest cost �
 cost-none cost e = ap (within 1 Numbers.longest) e
 
 pub cost_large : (cost : ℕ) → Numbers.longest < cost → within 1 Numbers.longest cost ≡ false
-cost_large cost h = rw (lt-leb cost Numbers.longest h) (and_false (leb 1 cost))
+cost_large cost h = rw (lt-leb cost Numbers.longest h) (and-false (leb 1 cost))
 
 pub cost_right : (cost : ℕ) → cost ≢ 0 → cost ≤ Numbers.longest → within 1 Numbers.longest cost ≡ true
 cost_right cost n h = rw (le-leb 1 cost (omega arith), le-leb cost Numbers.longest h)

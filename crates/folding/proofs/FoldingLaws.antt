@@ -6,7 +6,7 @@
 --   kept_few                               of a timer whose beat is kept no instance waits unstarted
 use mathlib.Core.Path.{◌≡◌, sym, ap, ◌∙◌}
 use mathlib.Core.Logic.{◌≢◌}
-use mathlib.Core.Bool.{Bool, true, false, not, ◌&&◌, ◌||◌, or-true, or_false}
+use mathlib.Core.Bool.{Bool, true, false, not, ◌&&◌, ◌||◌, or-true, or-false}
 use mathlib.Core.List.{List}
 use Prim.Native.Nat.{ℕ, suc, ◌≤◌, ◌<◌}
 use native.Mathlib.Nat.{le_refl}
@@ -83,7 +83,7 @@ module _ (p : ℕ → Bool) (mask : ℕ) where
   pub sifted_all : (rest acc : ℕ) → Sifted p mask rest acc → rest ≡ 0 → acc ≡ gather (λ j. has mask j && p j) 16
   sifted_all rest acc s z =
       mask_ext 16 acc _ s.fits (gather_lt _ 16)
-      (λ j l. sym (or_false (has acc j)) ∙ (rw (z, has_zero) at (s.same j)) ∙ sym (gather_in (λ j. has mask j && p j) 16 j l))
+      (λ j l. sym (or-false (has acc j)) ∙ (rw (z, has_zero) at (s.same j)) ∙ sym (gather_in (λ j. has mask j && p j) 16 j l))
 
 -- nothing is folded where nothing comes
 pub folded_none : (t : Table) (ws : List ℕ) (running mask : ℕ) → mask ≡ 0 → 0 ≡ folded_of t ws running mask

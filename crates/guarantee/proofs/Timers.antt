@@ -69,7 +69,7 @@ module _ (tb : Table) (analysed : Analysed tb) (h : List Tick) (short : length h
   unfolding precedes
   member_timer i l e =
       let a = or_fails (ltb (kind_of tb x) (kind_of tb i)) (eqb (kind_of tb x) (kind_of tb i) && ltb x i) (inside i l e) in
-      omega (arith, ltb-false (kind_of tb x) (kind_of tb i) a.0, analysed.sound.kind-from i l, first_timer.1)
+      omega (arith, ltb-false (kind_of tb x) (kind_of tb i) a.0, analysed.sound.kind_from i l, first_timer.1)
 
   member_unpolled : (i : ℕ) → i < n → k i ≡ true → is_polled tb i ≡ false
   unfolding polled
@@ -114,7 +114,7 @@ module _ (tb : Table) (analysed : Analysed tb) (h : List Tick) (short : length h
     single = λ i j t _ _ _ a b. omega (arith, one_runs _ i a, one_runs _ j b);
     at_once = λ i t _ _. started_works (free t).started (eqb (callback_of (free t).outcome) (suc i));
     no_other = λ t _. refl;
-    unfed = λ i l e. head_unfed tb i (analysed.sound.timer-head i l (member_timer i l e));
+    unfed = λ i l e. head_unfed tb i (analysed.sound.timer_head i l (member_timer i l e));
     first = goes_first;
   }
 

@@ -26,6 +26,8 @@ below_zeros m (suc n) h = (h, below_zeros m n h)
 pub fit_sized : (fs : List Field) (vs : List (List ℕ)) → Fit fs vs → Sized fs vs
 fit_sized [] [] h = tt
 fit_sized (f ∷ fs) (v ∷ vs) h = (h.0, fit_sized fs vs h.2)
+fit_sized [] (v ∷ vs) h = elim h [ ]
+fit_sized (f ∷ fs) [] h = elim h [ ]
 
 pub length_fields : (fs : List Field) (vs : List (List ℕ)) → Sized fs vs → length (field_bytes fs vs) ≡ size_of fs
 unfolding field_bytes
@@ -38,12 +40,16 @@ length_fields (f ∷ fs) (v ∷ vs) h =
       ap (λ (n : ℕ). f.width * n) h.0,
       length_fields fs vs h.1,
     )
+length_fields [] (v ∷ vs) h = elim h [ ]
+length_fields (f ∷ fs) [] h = elim h [ ]
 
 -- ---- written behind a prefix, then read
 
 pub fields_back : (fs : List Field) (vs : List (List ℕ)) (p q : List ℕ) (k o : ℕ) → length p ≡ k + o → Fit fs vs
     → fields_at fs (p ++ (field_bytes fs vs ++ q)) k o ≡ vs
 unfolding fields_at field_bytes
+fields_back [] (v ∷ vs) p q k o e h = elim h [ ]
+fields_back (f ∷ fs) [] p q k o e h = elim h [ ]
 fields_back [] [] p q k o e h = refl
 fields_back (f ∷ fs) (v ∷ vs) p q k o e h =
     ap₂ ◌∷◌
@@ -79,6 +85,8 @@ over_fields (f ∷ fs) (v ∷ vs) b k = over_fields fs vs (over b k (run f.width
 pub over_fields_lem : (fs : List Field) (vs : List (List ℕ)) (b : List ℕ) (k : ℕ) → Sized fs vs → k + size_of fs ≤ length b
     → over_fields fs vs b k ≡ over b k (field_bytes fs vs)
 unfolding over_fields field_bytes
+over_fields_lem [] (v ∷ vs) b k h l = elim h [ ]
+over_fields_lem (f ∷ fs) [] b k h l = elim h [ ]
 over_fields_lem [] [] b k h l = sym (over_nil b k)
 over_fields_lem (f ∷ fs) (v ∷ vs) b k h l =
     over_fields_lem fs vs (over b k (run f.width v)) (k + f.width * f.many) h.1 (omega (arith, over-length b k (run f.width v) (omega (arith, n))))

@@ -7,7 +7,7 @@
 --   bound_under               it is never above the bound over all
 use mathlib.Core.Path.{◌≡◌, refl, ap, ap₂, ◌∙◌, fun_ext}
 use mathlib.Core.Logic.{◌⊎◌, inl, inr, ◌≢◌}
-use mathlib.Core.Bool.{Bool, true, false, not, ◌&&◌, ◌||◌, and_false}
+use mathlib.Core.Bool.{Bool, true, false, not, ◌&&◌, ◌||◌, and-false}
 use Prim.Native.Nat.{ℕ, suc, ◌+◌, ◌-◌, ◌≤◌, ◌<◌, min}
 use native.Mathlib.Nat.{le_refl}
 use native.Mathlib.Omega.{arith}
@@ -59,7 +59,7 @@ module _ (t : Table) (x : ℕ) where
   unfolding precedes
   not_first =
       ap₂ (λ (a b : Bool). a || (eqb (kind_of t x) (kind_of t x) && b)) (le-ltb (kind_of t x) (kind_of t x) (le_refl _)) (le-ltb x x (le_refl x))
-      ∙ and_false (eqb (kind_of t x) (kind_of t x))
+      ∙ and-false (eqb (kind_of t x) (kind_of t x))
 
   pub below_is : (i : ℕ) → i < t.count → has (lower_than t x) i ≡ precedes t x i
   unfolding lower_than
@@ -85,7 +85,7 @@ module _ (t : Table) (so : Sound t) (v : Level) where
   arrives i W l p =
       let c : Callback = callback_at t (head_of t i) in
       let s = spaced t so i l in
-      omega (arith, arrivals_first c.period c.jitter c.distance s.period-some s.distance_some, arrivals_upto t.count (arrivals_of t) (cost_of t) (sound_rising t so) i 1 W l p)
+      omega (arith, arrivals_first c.period c.jitter c.distance s.period_some s.distance_some, arrivals_upto t.count (arrivals_of t) (cost_of t) (sound_rising t so) i 1 W l p)
 
   -- a level charges nobody more than the whole table does
   fewer : (i W : ℕ) → i < t.count → work_in t v W i ≤ cost_of t i (arrivals_of t i W)

@@ -3,7 +3,7 @@
 -- that agree, and of one that nothing passes. gather_mask: of the sixteen slots. below_all, below_has: all slots below n. mask_within: a mask whose slots
 -- are below n.
 use mathlib.Core.Path.{◌≡◌, refl, sym, ap, ◌∙◌, subst}
-use mathlib.Core.Bool.{Bool, true, false, ◌&&◌, and_false}
+use mathlib.Core.Bool.{Bool, true, false, ◌&&◌, and-false}
 use mathlib.Core.Logic.{⊎_elim}
 use Prim.Native.Nat.{ℕ, zero, suc, ◌+◌, ◌-◌, ◌^◌, ◌≤◌, ◌<◌}
 use native.Mathlib.Nat.{eq-or-lt_of_le, pow-suc, lt_of_lt_of_le, le_of_suc-le-suc}
@@ -108,4 +108,4 @@ mask_within m n h =
   where
     same : (i : ℕ) (b : Bool) → has m i ≡ b → has m i ≡ (ltb i n && has m i)
     same i true e = ap (λ (b : Bool). b && has m i) (sym (lt-ltb i n (h i e)))
-    same i false e = e ∙ sym (ap (λ (b : Bool). ltb i n && b) e ∙ and_false (ltb i n))
+    same i false e = e ∙ sym (ap (λ (b : Bool). ltb i n && b) e ∙ and-false (ltb i n))

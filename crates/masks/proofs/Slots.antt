@@ -1,7 +1,7 @@
 -- Which slots a mask has after one is set or cleared, and of two masks together; masks below 2 ^ n that agree on n slots are equal.
 -- Everything goes by the lowest slot and the half of a mask, or by the bitwise laws of lib.Bits. Assumes nothing.
 use mathlib.Core.Path.{◌≡◌, refl, sym, ap, ap₂, ◌∙◌, subst}
-use mathlib.Core.Bool.{Bool, true, false, cond, not, ◌&&◌, ◌||◌, or-true, or_false}
+use mathlib.Core.Bool.{Bool, true, false, cond, not, ◌&&◌, ◌||◌, or-true, or-false}
 use Prim.Native.Nat.{ℕ, zero, suc, ◌+◌, ◌-◌, ◌*◌, ◌/◌, ◌%◌, ◌^◌, ◌≤◌, ◌<◌, min}
 use native.Mathlib.Nat.{mod-lt, add-zero, zero-mul, one-mul, mul_comm, div-div-eq-div-mul, div-one, div-eq_of_lt, pow-suc, lt_of_lt_of_le}
 use native.Mathlib.Numerals.{add-one}
@@ -164,7 +164,7 @@ pub has_with_same : (m i : ℕ) → has (with_bit m i) i ≡ true
 has_with_same m i = has_with m i i ∙ ap (λ (b : Bool). has m i || b) (eq-eqb i i refl) ∙ or-true (has m i)
 
 pub has_with_other : (m i k : ℕ) → (k ≡ i → ⊥) → has (with_bit m i) k ≡ has m k
-has_with_other m i k ne = has_with m i k ∙ ap (λ (b : Bool). has m k || b) (ne_eqb k i ne) ∙ or_false (has m k)
+has_with_other m i k ne = has_with m i k ∙ ap (λ (b : Bool). has m k || b) (ne_eqb k i ne) ∙ or-false (has m k)
 
 pub has_without_same : (m i : ℕ) → has (without_bit m i) i ≡ false
 has_without_same m i = has_without m i i ∙ ap (λ (b : Bool). has m i && not b) (eq-eqb i i refl) ∙ and_false (has m i)

@@ -50,7 +50,7 @@ taken b x e z =
       fits = (passed_by false b ok).fits;
       few = (passed_by false b ok).head.few;
       slots = λ i l. ap (λ (t : Table). callback_at t i) table ∙ record_by false b ok i l;
-      used = λ i l. subst (λ (c : Callback). c.used ≤ entry_places) (record_by false b ok i l) ((sound_read false b ok).entries-few i l);
+      used = λ i l. subst (λ (c : Callback). c.used ≤ entry_places) (record_by false b ok i l) ((sound_read false b ok).entries_few i l);
     }
   where
     said : x.refusal ≡ normalise_fault b

@@ -190,7 +190,7 @@ module _ (b : List ℕ) (bytes : (i : ℕ) → get_or b i 0 < 256) (ok : (read_f
   own : (i : ℕ) → i < get_or b 1 0 → over b (record_start i + 12) (run 2 (closed (entries_of (slot b i)))) ≡ b
   unfolding record_at fields_at table_at numbers
   own i l =
-      ap (λ (es : List ℕ). over b (record_start i + 12) (run 2 es)) (entries_same (slot b i) r.entries r.below-sums ∙ front)
+      ap (λ (es : List ℕ). over b (record_start i + 12) (run 2 es)) (entries_same (slot b i) r.entries r.below_sums ∙ front)
       ∙ ap (over b (record_start i + 12)) (run-numbers 2 b (record_start i) 12 k bytes (omega (arith, fits b weak, small b weak i l)))
       ∙ over_own b (record_start i + 12) (2 * k) (omega (arith, fits b weak, small b weak i l))
     where

@@ -3,7 +3,7 @@
 -- read_short, read_head, read_off, read_whole: the reader, test by test. reading_refused, reading-whole: what it hands back.
 use mathlib.Core.Path.{◌≡◌, sym, ap, ◌∙◌}
 use mathlib.Core.Logic.{◌≢◌}
-use mathlib.Core.Bool.{Bool, true, false, not, and_false}
+use mathlib.Core.Bool.{Bool, true, false, not, and-false}
 use mathlib.Core.List.{List, [], ◌∷◌}
 use Prim.Native.Nat.{ℕ, ◌+◌, ◌-◌, ◌≤◌, ◌<◌}
 use native.Mathlib.Omega.{arith}
@@ -36,7 +36,7 @@ module _ (b : List ℕ) (k : ℕ) (x : Bool) (first : x ≡ zeros b (k + 3) (k +
 
     pub spare_second : y ≡ false → true ≡ spare_at b k
     unfolding spare_at
-    spare_second e = simp (two, e, and_false)
+    spare_second e = simp (two, e, and-false)
 
     pub spare_third : x ≡ true → y ≡ true → (z : Bool) → z ≡ zeros b (k + 28) (k + 32 - (k + 28)) → not z ≡ spare_at b k
     unfolding spare_at

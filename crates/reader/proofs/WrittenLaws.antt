@@ -58,8 +58,8 @@ module _ (t : Table) (w : Writable t) where
   fit_header : Fit header_fields (header_numbers t)
   fit_header = (
     refl,
-    (omega (arith, so.edition-to), (omega (arith, so.few), tt)),
-    (refl, (omega (arith, so.budget-le, so.period-le), (omega (arith, so.period-le), (omega (arith, so.horizon-le), (omega (arith, so.delay-le), tt)))), (refl, below_zeros 256 6 (omega arith), tt)),
+    (omega (arith, so.edition_to), (omega (arith, so.few), tt)),
+    (refl, (omega (arith, so.budget_le, so.period_le), (omega (arith, so.period_le), (omega (arith, so.horizon_le), (omega (arith, so.delay_le), tt)))), (refl, below_zeros 256 6 (omega arith), tt)),
   )
 
   -- the header, with what follows it
@@ -78,7 +78,7 @@ module _ (t : Table) (w : Writable t) where
     fit_record =
         let ticks = ticks-le t w.faultless i l in (
           refl,
-          (omega (arith, so.kind-to i l), (omega (arith, so.names i l, so.few), (omega (arith, so.entries-few i l), tt))),
+          (omega (arith, so.kind_to i l), (omega (arith, so.names i l, so.few), (omega (arith, so.entries_few i l), tt))),
           (
             refl,
             below_zeros 256 1 (omega arith),
@@ -88,7 +88,7 @@ module _ (t : Table) (w : Writable t) where
               (
                 refl,
                 below_zeros 256 2 (omega arith),
-                (w.entries-length i l, below_all 65536 c.entries (λ k h. omega (arith, entries_le t w.faultless i l k (omega (arith, w.entries-length i l)))), (refl, below_zeros 256 4 (omega arith), tt)),
+                (w.entries_length i l, below_all 65536 c.entries (λ k h. omega (arith, entries_le t w.faultless i l k (omega (arith, w.entries_length i l)))), (refl, below_zeros 256 4 (omega arith), tt)),
               ),
             ),
           ),

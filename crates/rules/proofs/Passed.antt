@@ -57,7 +57,7 @@ head_passed edition count e =
 
 pub head_accepted : (edition count : ℕ) → HeadPassed edition count → head_fault edition count ≡ accepted
 unfolding head_fault
-head_accepted edition count p = simp (le-leb Numbers.edition_one edition p.edition-from, le-leb edition Numbers.edition_two p.edition-to, le-leb 1 count p.some, le-leb count Numbers.places p.few)
+head_accepted edition count p = simp (le-leb Numbers.edition_one edition p.edition_from, le-leb edition Numbers.edition_two p.edition_to, le-leb 1 count p.some, le-leb count Numbers.places p.few)
 
 -- ---- one record
 
@@ -127,7 +127,7 @@ module _ (sums : Bool) (spares : ℕ) (t : Table) where
       right : fault i ≡ 0
       right =
           let p = h i (omega arith) (omega arith) in
-          simp (p.kind, le-ltb t.count (next_of t i) p.next, p.entries, p.below-sums, p.unused, p.clear)
+          simp (p.kind, le-ltb t.count (next_of t i) p.next, p.entries, p.below_sums, p.unused, p.clear)
 
 -- ---- the links
 
@@ -204,6 +204,6 @@ module _ (t : Table) where
     supply = p.supply;
     delay = p.delay;
     horizon = p.horizon;
-    records = λ i l. (let r = p.records i l in record { kind = r.kind; next = r.next; entries = r.entries; below_sums = r.below-sums; unused = r.unused; clear = has_zero i });
+    records = λ i l. (let r = p.records i l in record { kind = r.kind; next = r.next; entries = r.entries; below_sums = r.below_sums; unused = r.unused; clear = has_zero i });
     links = p.links;
   })

@@ -3,7 +3,7 @@
 -- first_refused, first_passed, both_passed: the first of two refusals. lowest-refused, lowest_passed, lowest_zero: the lowest callback that is refused.
 use mathlib.Core.Path.{◌≡◌, sym, ap, ap₂, ◌∙◌}
 use mathlib.Core.Logic.{◌⊎◌, inl, inr, ◌≢◌}
-use mathlib.Core.Bool.{Bool, true, false, not, ◌&&◌, ◌||◌, and_false}
+use mathlib.Core.Bool.{Bool, true, false, not, ◌&&◌, ◌||◌, and-false}
 use mathlib.Core.List.{List}
 use Prim.Native.Nat.{ℕ, zero, suc, ◌+◌, ◌-◌, ◌≤◌, ◌<◌}
 use native.Mathlib.Numerals.{add-one}
@@ -36,7 +36,7 @@ module _ (c : Callback) where
 
   pub cost_many : 8 < c.used → true ≡ entries_fault c
   unfolding entries_fault
-  cost_many h = simp (lt-leb c.used 8 h, and_false)
+  cost_many h = simp (lt-leb c.used 8 h, and-false)
 
   module _ (low : c.used ≢ 0) (high : c.used ≤ 8) where
     cost-every : (b : Bool) → every c.used (rises c) ≡ b → not b ≡ entries_fault c
@@ -55,7 +55,7 @@ module _ (c : Callback) where
   falls k h = simp (le-ltb _ _ h)
 
   pub rises_far : (k : ℕ) → longest < entry c.entries (suc k) → rises c k ≡ false
-  rises_far k h = simp (lt-leb _ _ h, and_false)
+  rises_far k h = simp (lt-leb _ _ h, and-false)
 
   pub rises_well : (k : ℕ) → entry c.entries k < entry c.entries (suc k) → entry c.entries (suc k) ≤ longest → rises c k ≡ true
   rises_well k l h = simp (lt-ltb _ _ l, le-leb _ _ h)

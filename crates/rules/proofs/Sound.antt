@@ -122,7 +122,7 @@ module _ (t : Table) where
 pub sound_by : (sums spare : Bool) (spares : ℕ) (t : Table) → HeadPassed t.edition t.count → BodyPassedBy sums spare spares t → Sound t
 sound_by sums spare spares t head body =
     record {
-      edition_to = head.edition-to;
+      edition_to = head.edition_to;
       some = head.some;
       few = head.few;
       budget_some = supplied.0;
@@ -183,8 +183,8 @@ module _ (t : Table) (ok : (fault_of t).number ≡ 0) (i : ℕ) (l : i < t.count
       s = sound t ok
 
       go : (b : Bool) → is_head t i ≡ b → (own.period ≤ longest) × (own.jitter ≤ longest) × (own.distance ≤ longest)
-      go true e = (s.head-period-le i l e, s.head-jitter-le i l e, omega (arith, s.head-distance-le i l e, s.head-period-le i l e))
-      go false e = (omega (arith, s.follower-period i l e), omega (arith, s.follower-jitter i l e), omega (arith, s.follower-distance i l e))
+      go true e = (s.head_period_le i l e, s.head_jitter_le i l e, omega (arith, s.head_distance_le i l e, s.head_period_le i l e))
+      go false e = (omega (arith, s.follower_period i l e), omega (arith, s.follower_jitter i l e), omega (arith, s.follower_distance i l e))
 
   -- used or not
   pub entries_le : (k : ℕ) → k < entry_places → get_or own.entries k 0 ≤ longest

@@ -8,7 +8,7 @@
 --   foremost-same, choose_law              the choice in masks is that of step 3
 use mathlib.Core.Path.{◌≡◌, refl, sym, ap, ap₂, ◌∙◌}
 use mathlib.Core.Logic.{◌≢◌}
-use mathlib.Core.Bool.{Bool, true, false, not, ◌&&◌, ◌||◌, and_false}
+use mathlib.Core.Bool.{Bool, true, false, not, ◌&&◌, ◌||◌, and-false}
 use mathlib.Core.List.{List}
 use Prim.Native.Nat.{ℕ, zero, suc, ◌+◌, ◌≤◌, ◌<◌}
 use native.Mathlib.Omega.{arith}
@@ -160,8 +160,8 @@ module _ (t : Table) (ws : List ℕ) (i g o : ℕ) (inv : Sorted t ws i g o) whe
 
   pub one-idle : get_or ws i 0 ≤ 0 → Sorted t ws (i + 1) g o
   one-idle w = (
-    gather-left (λ j. is_polled t j && waits ws j) i g inv.0 (ap (λ (b : Bool). is_polled t i && b) (le-ltb 0 (get_or ws i 0) w) ∙ and_false (is_polled t i)),
-    gather-left (λ j. not (is_polled t j) && waits ws j) i o inv.1 (ap (λ (b : Bool). not (is_polled t i) && b) (le-ltb 0 (get_or ws i 0) w) ∙ and_false (not (is_polled t i))),
+    gather-left (λ j. is_polled t j && waits ws j) i g inv.0 (ap (λ (b : Bool). is_polled t i && b) (le-ltb 0 (get_or ws i 0) w) ∙ and-false (is_polled t i)),
+    gather-left (λ j. not (is_polled t j) && waits ws j) i o inv.1 (ap (λ (b : Bool). not (is_polled t i) && b) (le-ltb 0 (get_or ws i 0) w) ∙ and-false (not (is_polled t i))),
   )
 
 -- tests that agree on the callbacks of the table

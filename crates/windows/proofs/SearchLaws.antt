@@ -119,7 +119,7 @@ module _ (t : Table) (heads : List ℕ) (ready : Headed t heads) (v : Level) (x 
   first_offset below =
       let c : Callback = callback_at t (head_of t x) in
       let so = spaced t ready.sound x below in
-      omega (arith, arrivals-none c.period c.jitter c.distance, arrivals_first c.period c.jitter c.distance so.period-some so.distance_some)
+      omega (arith, arrivals-none c.period c.jitter c.distance, arrivals_first c.period c.jitter c.distance so.period_some so.distance_some)
 
   -- an offset that charges no instance of x more needs no search: its F is that of the offset before it
   pub bound_skip : (A w : ℕ) → x < t.count → has v.below x ≡ false → arrivals_of t x (A + 1) ≡ arrivals_of t x A → w ≡ largest A (λ B. finish_in t v x B - B)

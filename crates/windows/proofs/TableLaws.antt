@@ -38,39 +38,39 @@ module _ (t : Table) (so : Sound t) where
       let k = head_lt t i l in
       let e = head_is_head t so i l in
       record {
-        period_some = so.head-period _ k e;
-        period_most = so.head-period-le _ k e;
-        jitter_most = so.head-jitter-le _ k e;
-        distance_some = so.head-distance _ k e;
-        distance_most = omega (arith, so.head-distance-le _ k e, so.head-period-le _ k e);
+        period_some = so.head_period _ k e;
+        period_most = so.head_period_le _ k e;
+        jitter_most = so.head_jitter_le _ k e;
+        distance_some = so.head_distance _ k e;
+        distance_most = omega (arith, so.head_distance_le _ k e, so.head_period_le _ k e);
       }
 
   -- the costs of each callback
   pub costed : (i : ℕ) → i < t.count → Costed (callback_at t i)
   costed i l = record {
-    entries_some = so.entries-some i l;
-    entries_most = so.entries-few i l;
-    listed = omega (arith, so.entries-length i l, so.entries-some i l);
-    rising = so.entries-rise i l;
+    entries_some = so.entries_some i l;
+    entries_most = so.entries_few i l;
+    listed = omega (arith, so.entries_length i l, so.entries_some i l);
+    rising = so.entries_rise i l;
   }
 
   -- a does not fall, and E rises
   pub sound_rising : Rising t.count (arrivals_of t) (cost_of t)
   unfolding arrivals_of cost_of
   sound_rising = record {
-    a_up = λ i d l. let c : Callback = callback_at t (head_of t i) in arrivals_mono c.period c.jitter c.distance (spaced i l).period-some (spaced i l).distance_some d;
+    a_up = λ i d l. let c : Callback = callback_at t (head_of t i) in arrivals_mono c.period c.jitter c.distance (spaced i l).period_some (spaced i l).distance_some d;
     e_up = λ i m l. cost_up (entries_of (callback_at t i)) (costed i l).listed (costed i l).rising m;
   }
 
   -- so it is in a level
   pub level_rising : (v : Level) → Rising t.count (arrivals_in t v) (cost_of t)
   unfolding arrivals_in
-  level_rising v = record { a_up = λ i d l. given_up (not (has v.below i)) (sound_rising.a-up i d l); e_up = sound_rising.e_up }
+  level_rising v = record { a_up = λ i d l. given_up (not (has v.below i)) (sound_rising.a_up i d l); e_up = sound_rising.e_up }
 
   -- its supply has an inverse
   pub sound_inverse : (most : ℕ) → Inverse most (supply_of t) (reach_of t most)
   unfolding supply_of reach_of
-  sound_inverse = supply_inverse t.budget t.period t.delay so.budget-some so.budget-le
+  sound_inverse = supply_inverse t.budget t.period t.delay so.budget_some so.budget_le
 
   -- a head leads itself, and nobody else does
   pub head_own : (i : ℕ) → i < t.count → is_head t i ≡ eqb (head_of t i) i
@@ -86,7 +86,7 @@ module _ (t : Table) (so : Sound t) where
     where
       go : (b : Bool) → elim b [ true ↦ longest | false ↦ t.horizon ] ≤ longest
       go true = le_refl longest
-      go false = so.horizon-le
+      go false = so.horizon_le
 
 -- one head more, as a loop writes it
 pub heads_more : (t : Table) (heads : List ℕ) (i v : ℕ) → i < length heads → ((j : ℕ) → j < i → get_or heads j 0 ≡ head_of t j) → v ≡ head_of t i

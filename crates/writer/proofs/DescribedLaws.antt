@@ -3,7 +3,7 @@
 -- described-narrow: what writing gives for a described table is what it gives for the one in its fields' widths.
 use mathlib.Core.Path.{◌≡◌, refl, sym, ap, ap₂, ◌∙◌, subst}
 use mathlib.Core.Logic.{◌⊎◌, inl, inr}
-use mathlib.Core.Bool.{Bool, true, cond, not, ◌||◌, and_false, true≢false}
+use mathlib.Core.Bool.{Bool, true, cond, not, ◌||◌, and-false, true≢false}
 use mathlib.Core.List.{List, [], ◌∷◌}
 use Prim.Native.Nat.{ℕ, ◌+◌, ◌*◌, ◌≤◌, ◌<◌}
 use native.Mathlib.Nat.{add-zero}
@@ -58,7 +58,7 @@ narrow_within low high x l = go (le_or_lt x 255)
   where
     go : (x ≤ 255) ⊎ (255 < x) → within low high (narrow x) ≡ within low high x
     go (inl h) = ap (within low high) (narrow-same x h)
-    go (inr h) = ap (within low high) (narrow_wide x h) ∙ simp (lt-leb 255 high l, lt-leb x high (omega arith), and_false)
+    go (inr h) = ap (within low high) (narrow_wide x h) ∙ simp (lt-leb 255 high l, lt-leb x high (omega arith), and-false)
 
 narrow_above : (n x : ℕ) → n < 255 → ltb n (narrow x) ≡ ltb n x
 narrow_above n x l = go (le_or_lt x 255)
@@ -130,7 +130,7 @@ module _ (bytes ticks ns : List ℕ) where
   unfolding described narrow_table
   alike p =
       record {
-        edition = sym (narrow-same t.edition (omega (arith, p.edition-to)));
+        edition = sym (narrow-same t.edition (omega (arith, p.edition_to)));
         count = sym (narrow-same t.count (omega (arith, p.few)));
         ticks = refl;
         judged = λ i spare l.

@@ -24,7 +24,7 @@ whole c = let places : length c.args.entries ≡ 8 = search rules in cost_used c
 within : (c : Start) → total c ≤ 65535 * c.args.count
 within c = used_under c.args.entries c.args.used c.args.count c.requires.0 65535 (λ k. let place : Fits w16 (get_or c.args.entries k 0) = search rules in omega arith)
 
-last : (c : goal.Else-left-eq0) → c.before.args.count % c.before.args.used < 8
+last : (c : goal.Else-left-eq0-unread) → c.before.args.count % c.before.args.used < 8
 last c = omega (arith, mod-lt c.before.args.count c.before.requires.0)
 
 read : (c : goal.Else-left-eq0)

@@ -11,17 +11,17 @@ use Rattle.lent.proofs.Fields.{run_start, run_step}
 use Rattle.lent.proofs.put_u16s.Goals as goal
 
 pub loop-i-init : goal.loop-i-init
-loop-i-init c = let a = c.before.before.args in (omega arith, refl, run_start 2 a.b-1.now a.xs.now a.at)
+loop-i-init c = let a = c.before.before.args in (omega arith, refl, run_start 2 a.b.now a.xs.now a.at)
 
 pub loop-i-preserved : goal.loop-i-preserved
 loop-i-preserved c =
     let l = c.before.before.before.before.before.before.loop-i in
     let a = c.before.before.before.before.before.before.before.before.before.args in (
       omega arith,
-      c.before.before.put_u16.auto.0 ∙ l.invariant.1,
+      c.before.before.put_u16.auto.b ∙ l.invariant.1,
       c.before.before.put_u16.ensures
           ∙ ap (λ (b : List ℕ). over b (a.at + 2 * l.i) (le 2 (get_or a.xs.now l.i 0))) l.invariant.2
-          ∙ run_step 2 a.b-1.now a.xs.now a.at l.i (omega arith) (omega arith),
+          ∙ run_step 2 a.b.now a.xs.now a.at l.i (omega arith) (omega arith),
     )
 
 pub shape_of-b : goal.shape_of-b
@@ -31,4 +31,4 @@ pub returns : goal.returns
 returns c =
     let a = c.before.before.before.before.args in
     let l = c.before.loop-i in
-    l.invariant.2 ∙ ap (λ (ys : List ℕ). over a.b-1.now a.at (run 2 ys)) (take_all l.i a.xs.now (omega arith))
+    l.invariant.2 ∙ ap (λ (ys : List ℕ). over a.b.now a.at (run 2 ys)) (take_all l.i a.xs.now (omega arith))

@@ -1,6 +1,6 @@
 -- `goes_before` meets its contract: the kinds decide, and among equal kinds the slots.
 use mathlib.Core.Path.{sym, ap, ap₂, ◌∙◌}
-use mathlib.Core.Bool.{Bool, ◌&&◌, ◌||◌, or_false}
+use mathlib.Core.Bool.{Bool, ◌&&◌, ◌||◌, or-false}
 use native.Mathlib.Omega.{arith}
 use lib.Dec.{ltb}
 use borrow.Author.Rules.{rules}
@@ -24,7 +24,7 @@ returns-2 c =
     let a = c.before.args in
     let kind = kind_of a.t1 a.x in
     let other = kind_of a.t1 a.i in
-    sym (ap (λ (q : Bool). ltb kind other || (q && ltb a.x a.i)) (ne_eqb kind other c.if1.false) ∙ or_false (ltb kind other))
+    sym (ap (λ (q : Bool). ltb kind other || (q && ltb a.x a.i)) (ne_eqb kind other c.if1.false) ∙ or-false (ltb kind other))
 
 pub goes-before-spec : {M : Type 1} → statement M
 goes-before-spec = tie.close (tie.spec (λ c. search rules) (λ c. search rules) (λ c. search rules) (λ c. search rules) returns returns-2)

@@ -1,6 +1,6 @@
 -- `arrivals_fault` meets its contract: each test is one of rule 14's. Assumes nothing.
 use mathlib.Core.Path.{sym, ap, ◌∙◌}
-use mathlib.Core.Bool.{Bool, and_false, or-true}
+use mathlib.Core.Bool.{Bool, and-false, or-true}
 use borrow.Author.Tests.{ne_eqb, lt-ltb, lt-leb}
 use Rattle.link_rules.proofs.arrivals_fault.Statement.{statement}
 use Rattle.link_rules.proofs.arrivals_fault.Tie as tie
@@ -13,7 +13,7 @@ returns c = simp (c.before.before.if1.true, c.if2.true)
 
 returns-2 : tie.Need-returns-2
 unfolding arrivals_fault
-returns-2 c = simp (c.before.before.before.before.if1.true, lt-leb _ _ c.if3.true, and_false)
+returns-2 c = simp (c.before.before.before.before.if1.true, lt-leb _ _ c.if3.true, and-false)
 
 returns-3 : tie.Need-returns-3
 unfolding arrivals_fault

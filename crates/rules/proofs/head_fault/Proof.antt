@@ -1,5 +1,5 @@
 -- `head_fault` meets its contract: the tests in their order. Assumes nothing.
-use mathlib.Core.Bool.{and_false}
+use mathlib.Core.Bool.{and-false}
 use native.Mathlib.Omega.{arith}
 use borrow.Author.Rules.{rules}
 use borrow.Author.Tests.{le-leb, lt-leb}
@@ -15,7 +15,7 @@ returns c = simp (lt-leb edition_one c.before.before.args.edition (omega arith))
 
 returns-2 : tie.Need-returns-2
 unfolding head_fault
-returns-2 c = simp (lt-leb c.before.before.before.args.edition edition_two (omega arith), and_false) c.refused2.ensures
+returns-2 c = simp (lt-leb c.before.before.before.args.edition edition_two (omega arith), and-false) c.refused2.ensures
 
 returns-3 : tie.Need-returns-3
 unfolding head_fault
@@ -27,7 +27,7 @@ returns-4 : tie.Need-returns-4
 unfolding head_fault
 returns-4 c =
     let known = within_holds edition_one edition_two c.before.before.before.before.before.args.edition (omega arith) (omega arith) in
-    simp (known, lt-leb _ _ c.before.if4.taken, and_false) c.refused4.ensures
+    simp (known, lt-leb _ _ c.before.if4.taken, and-false) c.refused4.ensures
 
 returns-5 : tie.Need-returns-5
 unfolding head_fault

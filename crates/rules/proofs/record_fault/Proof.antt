@@ -1,6 +1,6 @@
 -- `reader::rules::record_fault` meets its contract: the tests come in the order of the rules. Assumes nothing.
 use mathlib.Core.Path.{sym, ◌∙◌}
-use mathlib.Core.Bool.{and_false, or-true}
+use mathlib.Core.Bool.{and-false, or-true}
 use borrow.Author.Tests.{lt-ltb, le-ltb, le-leb, lt-leb}
 use Rattle.rules.specs.Rules.{record_fault_by}
 use Rattle.rules.proofs.Sound.{cost_count}
@@ -14,7 +14,7 @@ returns c = simp (lt-leb _ _ c.if1.true)
 
 returns-2 : tie.Need-returns-2
 unfolding record_fault_by
-returns-2 c = simp (lt-leb _ _ c.if2.true, and_false)
+returns-2 c = simp (lt-leb _ _ c.if2.true, and-false)
 
 returns-3 : tie.Need-returns-3
 unfolding record_fault_by

@@ -5,13 +5,9 @@ use Rattle.masks.specs.Parts.{except}
 use Rattle.table.specs.declared.Names.{Names}
 use Rattle.table.proofs.NamedLaws.{heads_law}
 use borrow.Author.Rules.{rules}
-use Rattle.table.proofs.links.heads.Statement.{statement}
-use Rattle.table.proofs.links.heads.Tie as tie
+use Rattle.table.proofs.links.heads.Goals as goal
 
-returns : tie.Need-returns
+pub returns : goal.returns
 returns c =
     let t = c.before.before.args.t in
-    c.others.ensures ∙ ap (λ (s : Names). except (2 ^ t.count - 1) s.once) c.before.named.ensures ∙ heads_law t
-
-pub heads-spec : {M : Type 1} → statement M
-heads-spec = tie.close (tie.spec (λ c κs. search rules) (λ c κs. search rules) returns)
+    c.others.ensures ∙ ap (λ (s : Names). except (2 ^ t.count - 1) s.once) c.before.named-names.ensures ∙ heads_law t
