@@ -1,0 +1,15 @@
+-- `closed` meets its contract: after k steps the first k entries are replaced, and the others as they were. Assumes nothing.
+use mathlib.Core.Path.{◌≡◌, ap, ◌∙◌}
+use Prim.Native.Nat.{◌-◌, ◌≤◌}
+use native.Mathlib.Nat.{le_antisymm}
+use native.Mathlib.Omega.{arith}
+use lib.ListN.{length, length-set}
+use borrow.Author.Rules.{rules}
+use Rattle.closure.proofs.ClosureLaws.{replaced, replaced_none, replaced_more, replaced_all}
+use Rattle.closure.proofs.closed.Given as goal
+
+abbrev pub invariant-loop-k : goal.invariant-loop-k
+invariant-loop-k l = (l.k ≤ l.used) × (length l.sums ≡ 8) × (l.sums ≡ replaced l.entries l.used l.k)
+
+abbrev pub decreases-loop-k : goal.decreases-loop-k
+decreases-loop-k l = l.used - l.k

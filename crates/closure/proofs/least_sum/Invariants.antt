@@ -1,0 +1,26 @@
+-- `least_sum` meets its contract: after j steps best is the smallest of the entry and the sums by a first part up to j. Assumes nothing.
+use mathlib.Core.Path.{◌≡◌, refl, ap, ◌∙◌}
+use mathlib.Core.Logic.{⊎_elim}
+use mathlib.Core.List.{List}
+use Prim.Native.Nat.{ℕ, suc, ◌+◌, ◌-◌, ◌≤◌, min}
+use native.Mathlib.Nat.{le_antisymm}
+use native.Mathlib.Omega.{arith}
+use borrow.Author.Rules.{rules}
+use lib.ListN.{get_or}
+use mir.Val.{Fits}
+use mir.Syntax.{w16}
+use Rattle.ranges.specs.Least.{smallest}
+use Rattle.ranges.proofs.LeastLaws.{smallest_more}
+use Rattle.curves.specs.Cost.{entry}
+use Rattle.curves.proofs.CostLaws.{entry_at}
+use Rattle.closure.proofs.least_sum.Given as goal
+
+-- the sum by a first part of position i + 1
+abbrev pub first_sum : List ℕ → List ℕ → ℕ → ℕ → ℕ
+first_sum entries sums k i = entry entries (suc i) + entry sums (k - i)
+
+abbrev pub invariant-loop-j : goal.invariant-loop-j
+invariant-loop-j l = (l.j ≤ l.k) × (l.best ≤ 65535) × (l.best ≡ smallest (entry l.entries (suc l.k)) l.j (first_sum l.entries l.sums l.k))
+
+abbrev pub decreases-loop-j : goal.decreases-loop-j
+decreases-loop-j l = l.k - l.j

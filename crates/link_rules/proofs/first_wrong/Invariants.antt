@@ -1,0 +1,22 @@
+-- `first_wrong` meets its contract: what is left of the search at i is the whole. Assumes nothing.
+use mathlib.Core.Path.{◌≡◌, sym, ap, ◌∙◌}
+use mathlib.Core.Bool.{Bool, true, false}
+use Prim.Native.Nat.{ℕ, ◌≤◌, ◌-◌}
+use native.Mathlib.Omega.{arith}
+use Rattle.masks.specs.Mask.{has}
+use Rattle.ranges.specs.Least.{lowest}
+use Rattle.ranges.proofs.LeastLaws.{rest_slots, slots_start, slots_end, slots_hit, slots_miss}
+use Rattle.table.specs.declared.Table.{Table}
+use Rattle.table.specs.Values.{callback_at}
+use borrow.Author.Rules.{rules}
+use Rattle.link_rules.specs.LinkRules.{arrivals_fault}
+use Rattle.link_rules.proofs.first_wrong.Given as goal
+
+abbrev pub wrong : ℕ → Table → ℕ → Bool
+wrong heads t i = arrivals_fault (has heads i) (callback_at t i)
+
+abbrev pub invariant-loop-i : goal.invariant-loop-i
+invariant-loop-i l = (l.i ≤ l.t.count) × (rest_slots (wrong l.heads l.t) l.t.count l.i ≡ lowest (wrong l.heads l.t) l.t.count)
+
+abbrev pub decreases-loop-i : goal.decreases-loop-i
+decreases-loop-i l = l.n - l.i
