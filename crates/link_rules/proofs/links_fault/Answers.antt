@@ -34,7 +34,7 @@ twice_is : (c : After-first_index-twice) → c.first_index-twice.result ≡ twic
 twice_is c = twice_law _ c.before.before.requires.0 _ c.before.named-names.ensures _ c.first_index-twice.ensures
 
 none_twice : (c : Else-twice-ne0) → twice c.before.before.before.args.t ≡ 0
-none_twice c = sym (twice_is c.before) ∙ c.if-twice-ne0.left
+none_twice c = sym (twice_is c.before) ∙ c.if-twice-ne0.false
 
 timers_is : (c : After-first_index-timer) → c.first_index-timer.result ≡ timers c.before.before.before.before.before.before.before.args.t
 timers_is c =
@@ -42,7 +42,7 @@ timers_is c =
     timer_law _ s.before.requires.0 _ s.named-names.ensures _ c.before.before.before.by_kind-k.ensures _ c.first_index-timer.ensures
 
 none_timers : (c : Else-timer-ne0) → timers c.before.before.before.before.before.before.before.before.args.t ≡ 0
-none_timers c = sym (timers_is c.before) ∙ c.if-timer-ne0.left
+none_timers c = sym (timers_is c.before) ∙ c.if-timer-ne0.false
 
 looped_is : (c : After-first_index-looped) → c.first_index-looped.result ≡ looped c.before.before.before.before.before.before.before.before.before.before.before.before.args.t
 looped_is c =
@@ -50,7 +50,7 @@ looped_is c =
     looped_law _ s.before.requires.0 s.before.requires.1 _ s.named-names.ensures (none_twice c.before.before.before.before.before.before.before.before.before) _ c.before.before.before.others-heads.ensures _ c.before.before.reached.ensures _ c.before.others.ensures _ c.first_index-looped.ensures
 
 none_looped : (c : Else-looped-ne0) → looped c.before.before.before.before.before.before.before.before.before.before.before.before.before.args.t ≡ 0
-none_looped c = sym (looped_is c.before) ∙ c.if-looped-ne0.left
+none_looped c = sym (looped_is c.before) ∙ c.if-looped-ne0.false
 
 wrong_is : (c : After-first_wrong-wrong) → c.first_wrong-wrong.result ≡ wrong c.before.before.before.before.before.before.before.before.before.before.before.before.before.before.args.t
 wrong_is c =
@@ -61,7 +61,7 @@ pub returns-then-twice-ne0 : goal.returns-then-twice-ne0
 unfolding links_fault
 returns-then-twice-ne0 c =
     let e = twice_is c.before.before in
-    c.refused.ensures ∙ ap (refuse 11) e ∙ sym (lowest-refused _ _ _ (λ z. c.before.if-twice-ne0.taken (e ∙ z)))
+    c.refused.ensures ∙ ap (refuse 11) e ∙ sym (lowest-refused _ _ _ (λ z. c.before.if-twice-ne0.true (e ∙ z)))
 
 pub returns-then-timer-ne0 : goal.returns-then-timer-ne0
 unfolding links_fault
@@ -69,7 +69,7 @@ returns-then-timer-ne0 c =
     let e = timers_is c.before.before in
     c.refused-then-timer-ne0.ensures
     ∙ ap (refuse 12) e
-    ∙ sym (lowest_passed _ _ _ (none_twice c.before.before.before.before.before.before) ∙ lowest-refused _ _ _ (λ z. c.before.if-timer-ne0.taken (e ∙ z)))
+    ∙ sym (lowest_passed _ _ _ (none_twice c.before.before.before.before.before.before) ∙ lowest-refused _ _ _ (λ z. c.before.if-timer-ne0.true (e ∙ z)))
 
 pub returns-then-looped-ne0 : goal.returns-then-looped-ne0
 unfolding links_fault
@@ -78,7 +78,7 @@ returns-then-looped-ne0 c =
     let b = c.before.before.before.before.before.before in
     c.refused-then-looped-ne0.ensures
     ∙ ap (refuse 13) e
-    ∙ sym (lowest_passed _ _ _ (none_twice b.before.before.before.before.before) ∙ lowest_passed _ _ _ (none_timers b) ∙ lowest-refused _ _ _ (λ z. c.before.if-looped-ne0.taken (e ∙ z)))
+    ∙ sym (lowest_passed _ _ _ (none_twice b.before.before.before.before.before) ∙ lowest_passed _ _ _ (none_timers b) ∙ lowest-refused _ _ _ (λ z. c.before.if-looped-ne0.true (e ∙ z)))
 
 -- what is left where none of the first three was found
 last : (c : Else-looped-ne0)
@@ -92,7 +92,7 @@ last c =
 pub returns-then-wrong-ne0 : goal.returns-then-wrong-ne0
 returns-then-wrong-ne0 c =
     let e = wrong_is c.before.before in
-    c.refused-then-wrong-ne0.ensures ∙ ap (refuse 14) e ∙ sym (last c.before.before.before ∙ lowest-refused _ _ _ (λ z. c.before.if-wrong-ne0.taken (e ∙ z)))
+    c.refused-then-wrong-ne0.ensures ∙ ap (refuse 14) e ∙ sym (last c.before.before.before ∙ lowest-refused _ _ _ (λ z. c.before.if-wrong-ne0.true (e ∙ z)))
 
 pub returns : goal.returns
-returns c = c.refused-2.ensures ∙ sym (last c.before.before.before ∙ lowest_passed _ _ _ (sym (wrong_is c.before.before) ∙ c.before.if-wrong-ne0.left))
+returns c = c.refused-2.ensures ∙ sym (last c.before.before.before ∙ lowest_passed _ _ _ (sym (wrong_is c.before.before) ∙ c.before.if-wrong-ne0.false))

@@ -24,7 +24,7 @@ loop-i-preserved c =
     let test = c.before.test_slot.ensures in (
       omega arith,
       elim c.if-test_slot.branch [
-        then-test_slot w ↦ w.met-is ∙ w.marked-met.ensures ∙ ap (marks (next_of a.t) a.t.count _) l.invariant.1 ∙ reached_in a.t a.heads l.i (sym test ∙ w.if-test_slot.true)
+        | then-test_slot w ↦ w.met-is ∙ w.marked-met.ensures ∙ ap (marks (next_of a.t) a.t.count _) l.invariant.1 ∙ reached_in a.t a.heads l.i (sym test ∙ w.if-test_slot.true)
         | else-test_slot w ↦ w.met-is ∙ l.invariant.1 ∙ reached_out a.t a.heads l.i (sym test ∙ w.if-test_slot.false)
       ],
     )
