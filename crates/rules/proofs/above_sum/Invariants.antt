@@ -1,0 +1,20 @@
+-- `above_sum` meets its contract: the first j ways to split k + 1 in two have no lower sum, and half of them suffice. Assumes nothing.
+use mathlib.Core.Path.{◌≡◌, refl, ap, sym}
+use mathlib.Core.Bool.{true, not}
+use Prim.Native.Nat.{◌≤◌, ◌<◌, ◌-◌}
+use native.Mathlib.Omega.{arith}
+use Rattle.ranges.specs.Every.{every}
+use Rattle.ranges.proofs.EveryLaws.{every_more, every_miss}
+use Rattle.rules.specs.Rules.{joins}
+use Rattle.rules.proofs.RulesLaws.{joins_not, joins_well, joins_half}
+use borrow.Author.Rules.{rules}
+use lib.ListN.{get_or}
+use mir.Val.{Fits}
+use mir.Syntax.{w16}
+use Rattle.rules.proofs.above_sum.Given as goal
+
+abbrev pub invariant-loop-j : goal.invariant-loop-j
+invariant-loop-j l = (l.j ≤ l.k) × (every l.j (joins l.c.entries l.k) ≡ true)
+
+abbrev pub decreases-loop-j : goal.decreases-loop-j
+decreases-loop-j l = l.k - l.j
