@@ -141,7 +141,7 @@ module _ (b : List ℕ) (ok : (normalise_fault b).number ≡ 0) where
   unfolding table_at fields_at numbers
   passed =
       let p = passed_by false b ok in
-      let zero-head : (head_fault (get_or new 0 0) (get_or new 1 0)).number ≡ 0 = ap₂ (λ (x y : ℕ). (head_fault x y).number) (header_byte b ok 0 (omega arith)) (header_byte b ok 1 (omega arith)) ∙ p.head-zero in
+      let zero-head : (head_fault (get_or new 0 0) (get_or new 1 0)).number ≡ 0 = ap₂ (λ (x y : ℕ). (head_fault x y).number) (header_byte b ok 0 (omega arith)) (header_byte b ok 1 (omega arith)) ∙ p.head_zero in
       record {
         long = omega (arith, p.long, length-closed b ok n (omega arith));
         head_zero = zero-head;
@@ -169,7 +169,7 @@ fewer_rules b ok =
     let p = read_passed b ok in
     ap number_of (zero_by false b (record {
       long = p.long;
-      head_zero = p.head-zero;
+      head_zero = p.head_zero;
       head = p.head;
       fits = p.fits;
       body = record {

@@ -61,7 +61,7 @@ module _ (sums : Bool) (b : List ℕ) where
   unfolding read_fault_by whole_by
   zero_by p =
       rw (le-ltb (length b) header_length p.long, read_fault_by)
-      (first_passed _ _ p.head-zero ∙ rw (eq-eqb (length b) (record_start (get_or b 1 0)) p.fits) (body_accepted sums (not (header_clear b)) (spares_at b) (table_at b) p.body))
+      (first_passed _ _ p.head_zero ∙ rw (eq-eqb (length b) (record_start (get_or b 1 0)) p.fits) (body_accepted sums (not (header_clear b)) (spares_at b) (table_at b) p.body))
 
   module _ (ok : (read_fault_by sums b).number ≡ 0) where
     pub passed_by : ReadPassedBy
@@ -115,7 +115,7 @@ module _ (b : List ℕ) (ok : (read_fault b).number ≡ 0) where
 
   pub read_accepted : fault_of (table_at b) ≡ accepted
   unfolding table_at fields_at numbers
-  read_accepted = fault_accepted (table_at b) (not (header_clear b)) (spares_at b) read_passed.head-zero read_passed.body
+  read_accepted = fault_accepted (table_at b) (not (header_clear b)) (spares_at b) read_passed.head_zero read_passed.body
 
   pub read_sound : Sound (table_at b)
   read_sound = sound_read true b ok

@@ -1,0 +1,36 @@
+use mathlib.Core.Path.{◌≡◌, refl, sym, ap, ◌∙◌}
+use mathlib.Core.Logic.{⊎_elim}
+use mathlib.Core.Bool.{Bool}
+use mathlib.Core.List.{List}
+use Prim.Native.Nat.{ℕ, ◌≤◌, ◌-◌}
+use native.Mathlib.Nat.{le_antisymm}
+use native.Mathlib.Omega.{arith}
+use lib.ListN.{get_or}
+use Rattle.masks.specs.Mask.{gather}
+use Rattle.reader.specs.Format.{spare_at, record_start, spares_at}
+use borrow.Author.Rules.{rules}
+use Rattle.masks.proofs.Gather.{gather_took, gather-left}
+use Rattle.reader.proofs.spares_at.Invariants.{spare_in}
+use Rattle.reader.proofs.spares_at.Goals as goal
+use Rattle.reader.proofs.spares_at.Goals.{then-spare_at, else-spare_at}
+
+pub loop-i-init : goal.loop-i-init
+unfolding gather
+loop-i-init c = (omega arith, refl)
+
+pub loop-i-preserved : goal.loop-i-preserved
+loop-i-preserved c =
+    let p = spare_in c.before.before.before.before.before.before.args.b.now in
+    let l = c.before.before.before.loop-i in (
+      omega arith,
+      elim c.if-spare_at.branch [
+        | then-spare_at w ↦ w.spares-is ∙ w.set_slot-spares.ensures ∙ gather_took p l.i l.spares l.invariant.1 (sym c.before.spare_at.ensures ∙ w.if-spare_at.true)
+        | else-spare_at w ↦ w.spares-is ∙ gather-left p l.i l.spares l.invariant.1 (sym c.before.spare_at.ensures ∙ w.if-spare_at.false)
+      ],
+    )
+
+pub returns : goal.returns
+unfolding spares_at
+returns c =
+    let l = c.before.loop-i in
+    l.invariant.1 ∙ ap (gather (spare_in c.before.before.before.before.args.b.now)) (le_antisymm l.invariant.0 c.loop-i-test.false)

@@ -1,0 +1,23 @@
+-- `spares_at` meets its contract: after i records the mask has those of them with a spare byte not zero. Assumes nothing.
+use mathlib.Core.Path.{◌≡◌, refl, sym, ap, ◌∙◌}
+use mathlib.Core.Logic.{⊎_elim}
+use mathlib.Core.Bool.{Bool}
+use mathlib.Core.List.{List}
+use Prim.Native.Nat.{ℕ, ◌≤◌, ◌-◌}
+use native.Mathlib.Nat.{le_antisymm}
+use native.Mathlib.Omega.{arith}
+use lib.ListN.{get_or}
+use Rattle.masks.specs.Mask.{gather}
+use Rattle.reader.specs.Format.{spare_at, record_start, spares_at}
+use borrow.Author.Rules.{rules}
+use Rattle.masks.proofs.Gather.{gather_took, gather-left}
+use Rattle.reader.proofs.spares_at.Given as goal
+
+abbrev pub spare_in : List ℕ → ℕ → Bool
+spare_in b i = spare_at b (record_start i)
+
+abbrev pub invariant-loop-i : goal.invariant-loop-i
+invariant-loop-i l = (l.i ≤ get_or l.b 1 0) × (l.spares ≡ gather (spare_in l.b) l.i)
+
+abbrev pub decreases-loop-i : goal.decreases-loop-i
+decreases-loop-i l = l.n - l.i

@@ -1,0 +1,37 @@
+-- `bound` meets its contract. Outer loop: the largest F(A) - A of the offsets passed, and the instances that the last of them charged; the length is not past F of the next offset, since F does not fall.
+-- Inner loop: the length is not past F(A), and neither is the jump's end. What the jump does not go past is F(A), so that it ends there.
+use mathlib.Core.Path.{◌≡◌, refl, sym, ap, ap₂, ◌∙◌}
+use mathlib.Core.Logic.{⊎_elim}
+use Prim.Native.Nat.{ℕ, ◌+◌, ◌-◌, ◌≤◌, ◌<◌, max}
+use borrow.Author.Rules.{rules}
+use native.Mathlib.Omega.{arith}
+use lib.ListN.{get_or}
+use Rattle.ranges.specs.Least.{largest}
+use Rattle.ranges.proofs.LeastLaws.{largest_more}
+use Rattle.numbers.specs.Numbers.{places, longest}
+use Rattle.windows.proofs.TableLaws.{costed}
+use Rattle.windows.proofs.PartLaws.{head_within, head_spaced, arrivals_of_lem, work_of_lem}
+use Rattle.windows.proofs.SearchLaws.{finish_in_lem, finish_hit, finish_jump, finish_next, bound_start, bound_skip, bound_is, bound_in_lem}
+use Rattle.windows.specs.Bounds.{arrivals_of, cost_of, window_in}
+use Rattle.windows.specs.Parts.{most_demand, demand_in, but, finish_in, reach_of}
+use Rattle.windows.proofs.bound.Given as goal
+
+abbrev pub invariant-loop-length : goal.invariant-loop-length
+invariant-loop-length l =
+    (1 ≤ l.length) × (l.length ≤ finish_in l.t l.level l.x l.offset) × (l.others ≡ demand_in l.t (but l.level l.x) l.length) × (l.others ≤ most_demand)
+
+abbrev pub decreases-loop-length : goal.decreases-loop-length
+decreases-loop-length l = finish_in l.t l.level l.x l.offset - l.length
+
+abbrev pub invariant-loop-offset : goal.invariant-loop-offset
+invariant-loop-offset l =
+    (l.offset ≤ l.window)
+    × (1 ≤ l.length)
+    × (l.offset < window_in l.t l.level → l.length ≤ finish_in l.t l.level l.x l.offset)
+    × (l.others ≡ demand_in l.t (but l.level l.x) l.length)
+    × (l.others ≤ most_demand)
+    × (l.count ≡ arrivals_of l.t l.x l.offset)
+    × (l.worst ≡ largest l.offset (λ A. finish_in l.t l.level l.x A - A))
+
+abbrev pub decreases-loop-offset : goal.decreases-loop-offset
+decreases-loop-offset l = l.window - l.offset

@@ -1,0 +1,16 @@
+-- `heads_of` meets its contract. The loop: the heads of the slots passed stand in their places.
+use mathlib.Core.Path.{◌≡◌}
+use Prim.Native.Nat.{ℕ, ◌-◌, ◌≤◌, ◌<◌}
+use borrow.Author.Rules.{rules}
+use native.Mathlib.Omega.{arith}
+use lib.ListN.{length, get_or, length-set}
+use Rattle.numbers.specs.Numbers.{places}
+use Rattle.windows.proofs.TableLaws.{heads_more}
+use Rattle.chains.specs.Chains.{head_of}
+use Rattle.windows.proofs.heads_of.Given as goal
+
+abbrev pub invariant-loop-i : goal.invariant-loop-i
+invariant-loop-i l = (l.i ≤ l.n) × (length l.heads ≡ places) × ((j : ℕ) → j < l.i → get_or l.heads j 0 ≡ head_of l.t j)
+
+abbrev pub decreases-loop-i : goal.decreases-loop-i
+decreases-loop-i l = l.n - l.i
