@@ -1,0 +1,19 @@
+-- The counts alone change, by what is kept of the mask.
+use mathlib.Core.Path.{ap, ◌∙◌}
+use mathlib.Core.List.{List}
+use Prim.Native.Nat.{ℕ}
+use borrow.Author.Rules.{rules}
+use Rattle.masks.specs.Parts.{except}
+use Rattle.queues.specs.Queues.{arrived}
+use Rattle.folding.proofs.FoldingLaws.{kept_mask}
+use Rattle.executor.specs.declared.Machine.{Machine}
+use Rattle.executor.specs.State.{with_counts}
+use Rattle.executor.specs.Effect.{arrive}
+use Rattle.executor.proofs.Machine.arrive.Goals as goal
+
+pub returns : goal.returns
+returns c =
+    let start = c.before.before.before in
+    let m : Machine = start.args.self in
+    ap (λ (ws : List ℕ). with_counts m ws m.finished)
+    (c.arrive-arrived.ensures ∙ ap (λ (k : ℕ). arrived k m.waiting) (c.before.outside.ensures ∙ ap (except start.args.mask) start.requires.1 ∙ kept_mask start.args.mask _ start.ranges.mask.fits))

@@ -1,0 +1,31 @@
+-- Those folded, the arrivals, and then what the supply allows.
+use mathlib.Core.Path.{◌∙◌, sym, subst}
+use borrow.Author.Rules.{rules}
+use Rattle.numbers.specs.Numbers.{most_waiting}
+use Rattle.executor.specs.declared.Machine.{Machine}
+use Rattle.executor.specs.Parts.{Admissible}
+use Rattle.executor.proofs.ValidLaws.{admissible_arrived}
+use Rattle.executor.proofs.EffectLaws.{effect_supplied, effect-unsupplied}
+use Rattle.executor.proofs.Machine.effect.Goals as goal
+use Rattle.executor.proofs.Machine.effect.Goals.{After-arrive-m}
+
+-- the state after the arrivals
+arrived : (c : After-arrive-m) → Admissible 256 c.arrive-m.result c.before.before.args.cost
+arrived c =
+    let start = c.before.before in
+    subst (λ (m : Machine). Admissible 256 m start.args.cost) (sym c.arrive-m.ensures) (admissible_arrived start.args.self _ _ most_waiting start.requires.0 start.requires.1)
+
+pub arrive-m-requires : goal.arrive-m-requires
+arrive-m-requires c = (c.before.requires.0.room, c.folded-folded.ensures)
+
+pub serve-requires : goal.serve-requires
+serve-requires c = arrived c.before
+
+pub returns-then-supplied : goal.returns-then-supplied
+returns-then-supplied c = c.serve.ensures ∙ effect_supplied c.before.before.before.before.args.self _ _ _ _ c.before.before.before.folded-folded.ensures _ c.before.before.arrive-m.ensures c.before.if-supplied.true
+
+pub unsupplied-requires : goal.unsupplied-requires
+unsupplied-requires c = (arrived c.before).early
+
+pub returns : goal.returns
+returns c = c.unsupplied.ensures ∙ effect-unsupplied c.before.before.before.before.args.self _ _ _ _ c.before.before.before.folded-folded.ensures _ c.before.before.arrive-m.ensures c.before.if-supplied.false

@@ -1,0 +1,27 @@
+-- `blocking` meets its contract. The loop: the largest E(1) of the mask's slots passed; one less than it is returned.
+use mathlib.Core.Path.{◌≡◌, refl, sym, ap, ap₂, ◌∙◌}
+use mathlib.Core.Logic.{⊎_elim}
+use mathlib.Core.Bool.{Bool}
+use Prim.Native.Nat.{ℕ, ◌+◌, ◌-◌, ◌≤◌, max}
+use native.Mathlib.Omega.{arith}
+use borrow.Author.Rules.{rules}
+use Rattle.masks.specs.Mask.{has}
+use Rattle.ranges.specs.Sum.{given}
+use Rattle.ranges.specs.Least.{largest}
+use Rattle.ranges.proofs.LeastLaws.{largest_more}
+use Rattle.table.specs.declared.Table.{Table}
+use Rattle.windows.specs.Bounds.{cost_of}
+use Rattle.windows.proofs.TableLaws.{costed}
+use Rattle.levels.specs.Levels.{blocking_by}
+use Rattle.levels.specs.Parts.{single_of}
+use Rattle.levels.proofs.blocking.Given as goal
+
+-- what slot j counts
+abbrev pub one : Table → ℕ → ℕ → ℕ
+one t below j = given (has below j) (cost_of t j 1)
+
+abbrev pub invariant-loop-i : goal.invariant-loop-i
+invariant-loop-i l = (l.i ≤ l.n) × (l.most ≡ largest l.i (one l.t l.below)) × (l.most ≤ 65535)
+
+abbrev pub decreases-loop-i : goal.decreases-loop-i
+decreases-loop-i l = l.n - l.i
