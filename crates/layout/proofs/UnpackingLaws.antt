@@ -45,8 +45,8 @@ pub laid_machine : (b : List ℕ) {u : Unpacked} → u ≡ unpacking b → u.lai
 laid_machine b e f = ap (λ (u : Unpacked). u.machine) (e ∙ is_laid b (laid_yes b e f))
 
 -- a test for zeros that fails
-pub not_zero : (x y : Bool) → x ≡ y → not x ≡ true → y ≡ true → ⊥
-not_zero x y e f g = never_both x (e ∙ g) (not-true x f)
+pub not_zero : (x y : Bool) → x ≡ y → x ≡ false → y ≡ true → ⊥
+not_zero x y e f g = never_both x (e ∙ g) f
 
 -- a table read from its own part
 pub part_number : (b : List ℕ) {x : List ℕ} {r : Reading} → r ≡ read_of x → x ≡ table_part b → r.refusal.number ≡ (read_fault (table_part b)).number

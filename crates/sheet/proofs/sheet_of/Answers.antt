@@ -25,4 +25,4 @@ returns c =
     let start = c.before.before.before.before.before.before.before.before.before.before in
     let w = c.window-window.ensures.0 in
     let o = fault_passed start.args.t _ (λ z. c.if-window-eq0.false (w ∙ z)) (ap (too_many_at start.args.t) (sym w) ∙ sym c.first_crowded-crowded.ensures ∙ c.if-crowded-ne0.false) in
-    (ap (λ (k : ℕ). record { window-window = k; refusal = accepted }) w ∙ sym o.0, c.write_bounds.ensures ∙ sym o.1)
+    (ap (λ (k : ℕ). record { window = k; refusal = accepted }) w ∙ sym o.0, c.write_bounds.ensures ∙ sym o.1)
