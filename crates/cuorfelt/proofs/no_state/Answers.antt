@@ -1,0 +1,13 @@
+-- 29, and nothing beside it.
+use mathlib.Core.Path.{ap, ◌∙◌}
+use mathlib.Core.Bool.{false}
+use Rattle.table.specs.declared.Refusal.{Refusal}
+use Rattle.answers.specs.declared.Outcome.TheVariants.{Refused}
+use Rattle.answers.specs.Outcome.{reply_of}
+use Rattle.cuorfelt.specs.Edge.{no_state}
+use borrow.Author.Rules.{rules}
+use Rattle.cuorfelt.proofs.no_state.Goals as goal
+
+pub returns : goal.returns
+unfolding no_state
+returns c = c.reply.ensures ∙ ap (λ (r : Refusal). reply_of (Refused r) false false 0 0) c.refused.ensures
