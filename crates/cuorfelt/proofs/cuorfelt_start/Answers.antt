@@ -9,7 +9,7 @@ pub returns-then-state-ne-STATE_LENGTH : goal.returns-then-state-ne-STATE_LENGTH
 returns-then-state-ne-STATE_LENGTH c = let x = start_short _ _ c.if-state-ne-STATE_LENGTH.true in (c.refused.ensures ∙ x.0, x.1)
 
 pub returns-then-why-ne0 : goal.returns-then-why-ne0
-returns-then-why-ne0 c = let s = c.before.before.before in start_refused _ _ s.before.if-state-ne-STATE_LENGTH.false s.start-started.ensures c.if-why-ne0.true
+returns-then-why-ne0 c = let s = c.before.before.before in start_refused _ _ c.if-state-ne-STATE_LENGTH.false c.start-started.ensures c.if-why-ne0.true
 
 pub copy-requires : goal.copy-requires
 copy-requires c = omega (arith, start_size _ c.start-started.ensures c.if-why-ne0.false)
@@ -19,14 +19,11 @@ overflow_sub-end c = omega (arith, start_size _ c.start-started.ensures c.if-why
 
 pub zero-requires : goal.zero-requires
 zero-requires c =
-    let s = c.before.before.before.before.before.before.before.before in
-    omega (arith, s.before.if-state-ne-STATE_LENGTH.false, c.copy.auto.b, start_size _ s.start-started.ensures c.if-why-ne0.false)
+    omega (arith, c.if-state-ne-STATE_LENGTH.false, c.copy.auto.b, start_size _ c.start-started.ensures c.if-why-ne0.false)
 
 pub returns : goal.returns
 returns c =
-    let s = c.before.before.before.before.before.before.before.before.before.before.before in
-    let p = s.before.before.before in
-    start_done p.before.args.table.now p.before.args.state.now s.before.if-state-ne-STATE_LENGTH.false s.start-started.ensures c.if-why-ne0.false
-    (λ i. omega (arith, p.shared-slice-known.given i))
+    start_done c.args.table.now c.args.state.now c.if-state-ne-STATE_LENGTH.false c.start-started.ensures c.if-why-ne0.false
+    (λ i. omega (arith, c.type_inv.table i))
     c.copy.ensures
     c.zero.ensures

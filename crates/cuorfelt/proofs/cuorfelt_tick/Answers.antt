@@ -12,31 +12,30 @@ use Rattle.cuorfelt.proofs.cuorfelt_tick.Goals as goal
 
 pub returns-then-not-held : goal.returns-then-not-held
 returns-then-not-held c =
-    let x = tick_none _ _ _ _ (laid_no _ c.unpack-held.ensures c.if-not-held.true) in
+    let x = tick_none _ _ _ _ (laid_no _ c.unpack-held.ensures (not-true _ c.if-not-held.true)) in
     (c.no_state.ensures ∙ x.0, x.1)
 
 pub tick_checked-x-requires : goal.tick_checked-x-requires
 tick_checked-x-requires c =
     let e = c.unpack-held.ensures in
-    let yes = c.if-not-held.false in
+    let yes = not-false _ c.if-not-held.false in
     ap (λ (m : Machine). table_fault m.table) (laid_machine _ e yes) ∙ table_faultless _ (laid_yes _ e yes)
 
 pub returns-then-r-ne0 : goal.returns-then-r-ne0
 returns-then-r-ne0 c =
     let e = c.unpack-held.ensures in
-    let yes = c.if-not-held.false in
+    let yes = not-false _ c.if-not-held.false in
     tick_refused _ _ _ _ (laid_yes _ e yes) (laid_machine _ e yes) c.tick_checked-x.ensures c.reply-r.ensures c.if-r-ne0.true
 
 pub pack_tail-requires : goal.pack_tail-requires
-pack_tail-requires c = (laid_yes _ c.unpack-held.ensures c.if-not-held.false).size
+pack_tail-requires c = (laid_yes _ c.unpack-held.ensures (not-false _ c.if-not-held.false)).size
 
 pub returns : goal.returns
 returns c =
-    let u = c.before.before.before.before.before.before.before.before.before.before.before.before in
-    let yes = c.if-not-held.false in
+    let yes = not-false _ c.if-not-held.false in
     let p = c.pack_tail.ensures in
-    tick_done _ _ _ _ (laid_yes _ u.unpack-held.ensures yes) (laid_machine _ u.unpack-held.ensures yes) c.tick_checked-x.ensures c.reply-r.ensures
-    (λ i. omega (arith, u.before.before.slice-known.given i))
+    tick_done _ _ _ _ (laid_yes _ c.unpack-held.ensures yes) (laid_machine _ c.unpack-held.ensures yes) c.tick_checked-x.ensures c.reply-r.ensures
+    (λ i. search rules)
     c.if-r-ne0.false
     p.0
     p.1
