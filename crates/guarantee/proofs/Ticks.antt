@@ -50,13 +50,13 @@ module _ (f : Machine → Tick → Ticked) where
   unfolding at before tick_at
   next m [] t l = absurd (omega arith)
   next m (x ∷ h) zero l = refl
-  next m (x ∷ h) (suc t) l = next _ h t (omega arith)
+  next m (x ∷ h) (suc t) l = next (f m x).machine h t (omega arith)
 
 pub results_at : (m : Machine) (h : List Tick) (t : ℕ) → t < length h → result_at (results m h) t ≡ result_of (at ticked m h t)
 unfolding results at before tick_at result_at
 results_at m [] t l = absurd (omega arith)
 results_at m (x ∷ h) zero l = refl
-results_at m (x ∷ h) (suc t) l = results_at _ h t (omega arith)
+results_at m (x ∷ h) (suc t) l = results_at (ticked m x).machine h t (omega arith)
 
 -- what the ticks of h bring, and what they say, of each callback
 unfoldable pub events : List Tick → (ℕ → Result) → Events
