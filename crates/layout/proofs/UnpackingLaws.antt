@@ -1,10 +1,9 @@
 -- What unpacking gives, test by test. Assumes nothing.
 -- not_laid_lem, is_laid: by the layout. laid_no, laid_yes, laid_machine: what an unpacked state says. not_zero, part_number, part_table: the tests.
 use mathlib.Core.Path.{◌≡◌, refl, sym, ap, ◌∙◌}
-use mathlib.Core.Bool.{Bool, true, false, not}
+use mathlib.Core.Bool.{Bool, true, false}
 use mathlib.Core.List.{List}
 use Prim.Native.Nat.{ℕ}
-use borrow.Author.Tests.{not-true}
 use Rattle.ranges.proofs.EveryLaws.{never_both}
 use Rattle.table.specs.declared.Refusal.{Refusal}
 use Rattle.reader.specs.declared.Reading.{Reading}

@@ -19,7 +19,6 @@ use Rattle.rules.proofs.Passed.{HeadPassed, fault_passed}
 use Rattle.rules.proofs.Alike.{Alike, fault_alike}
 use Rattle.reader.specs.Format.{header_fields, record_start}
 use Rattle.reader.specs.Written.{header_numbers, record_bytes, records_bytes, written}
-use Rattle.writer.specs.declared.Written.{Written}
 use Rattle.writer.specs.Writer.{write_fault, write_of, buffer_after}
 use Rattle.writer.proofs.WriterLaws.{write_passed, writing_refused, writing_done}
 

@@ -3,7 +3,7 @@
 -- described-narrow: what writing gives for a described table is what it gives for the one in its fields' widths.
 use mathlib.Core.Path.{◌≡◌, refl, sym, ap, ap₂, ◌∙◌, subst}
 use mathlib.Core.Logic.{◌⊎◌, inl, inr}
-use mathlib.Core.Bool.{Bool, true, cond, not, ◌||◌, and-false, true≢false}
+use mathlib.Core.Bool.{Bool, cond, not, ◌||◌, and-false, true≢false}
 use mathlib.Core.List.{List, [], ◌∷◌}
 use Prim.Native.Nat.{ℕ, ◌+◌, ◌*◌, ◌≤◌, ◌<◌}
 use native.Mathlib.Nat.{add-zero}
@@ -18,7 +18,7 @@ use Rattle.numbers.specs.Numbers
 use Rattle.lent.specs.Bytes.{numbers, fields_at}
 use Rattle.table.specs.declared.Callback.{Callback}
 use Rattle.table.specs.declared.Table.{Table}
-use Rattle.table.specs.Values.{accepted, callback_ticks, callback_of, table_of, headless, placed, callback_at}
+use Rattle.table.specs.Values.{callback_ticks, callback_of, table_of, headless, placed, callback_at}
 use Rattle.table.proofs.PlacedLaws.{placed_in}
 use Rattle.rules.specs.Rules.{head_fault, entries_fault, sums_fault, unused_fault, record_fault, record_fault_by}
 use Rattle.rules.proofs.RulesLaws.{cost_many}

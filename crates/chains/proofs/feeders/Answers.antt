@@ -1,10 +1,6 @@
-use mathlib.Core.Path.{◌≡◌, ◌∙◌}
-use Prim.Native.Nat.{ℕ, ◌≤◌, ◌<◌}
+use mathlib.Core.Path.{◌∙◌}
 use native.Mathlib.Omega.{arith}
-use lib.ListN.{get_or}
-use Rattle.ranges.proofs.LeastLaws.{rest_slots}
-use Rattle.chains.proofs.ChainLaws.{naming, fed_start, fed_more, fed_end}
-use borrow.Author.Rules.{rules}
+use Rattle.chains.proofs.ChainLaws.{fed_start, fed_more, fed_end}
 use Rattle.chains.proofs.feeders.Goals as goal
 
 pub loop-p-init : goal.loop-p-init

@@ -1,11 +1,9 @@
 -- `feeders` meets its contract: each place holds the lowest of the records from p on that names it. Assumes nothing.
-use mathlib.Core.Path.{◌≡◌, ◌∙◌}
+use mathlib.Core.Path.{◌≡◌}
 use Prim.Native.Nat.{ℕ, ◌≤◌, ◌<◌}
-use native.Mathlib.Omega.{arith}
 use lib.ListN.{get_or}
 use Rattle.ranges.proofs.LeastLaws.{rest_slots}
-use Rattle.chains.proofs.ChainLaws.{naming, fed_start, fed_more, fed_end}
-use borrow.Author.Rules.{rules}
+use Rattle.chains.proofs.ChainLaws.{naming}
 use Rattle.chains.proofs.feeders.Given as goal
 
 abbrev pub invariant-loop-p : goal.invariant-loop-p

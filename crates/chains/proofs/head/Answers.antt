@@ -1,9 +1,8 @@
-use mathlib.Core.Path.{◌≡◌, sym, ap, ◌∙◌}
-use Prim.Native.Nat.{ℕ, ◌≤◌, ◌<◌, ◌-◌, ◌+◌}
+use mathlib.Core.Path.{sym, ap, ◌∙◌}
+use Prim.Native.Nat.{ℕ, ◌-◌, ◌+◌}
 use native.Mathlib.Omega.{arith}
 use Rattle.chains.proofs.ChainLaws.{feeder-le, head_start, head_top, head_up, head_end}
-use borrow.Author.Rules.{rules}
-use Rattle.chains.specs.Chains.{head_from, head_of}
+use Rattle.chains.specs.Chains.{head_from}
 use Rattle.chains.proofs.head.Goals as goal
 
 pub loop-k-init : goal.loop-k-init

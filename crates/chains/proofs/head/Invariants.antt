@@ -1,9 +1,6 @@
 -- `head` meets its contract: after k steps back the head of x is the head of the slot. Assumes nothing.
-use mathlib.Core.Path.{◌≡◌, sym, ap, ◌∙◌}
-use Prim.Native.Nat.{ℕ, ◌≤◌, ◌<◌, ◌-◌, ◌+◌}
-use native.Mathlib.Omega.{arith}
-use Rattle.chains.proofs.ChainLaws.{feeder-le, head_start, head_top, head_up, head_end}
-use borrow.Author.Rules.{rules}
+use mathlib.Core.Path.{◌≡◌}
+use Prim.Native.Nat.{◌≤◌, ◌<◌, ◌-◌}
 use Rattle.chains.specs.Chains.{head_from, head_of}
 use Rattle.chains.proofs.head.Given as goal
 

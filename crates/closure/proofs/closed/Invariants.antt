@@ -1,11 +1,8 @@
 -- `closed` meets its contract: after k steps the first k entries are replaced, and the others as they were. Assumes nothing.
-use mathlib.Core.Path.{◌≡◌, ap, ◌∙◌}
+use mathlib.Core.Path.{◌≡◌}
 use Prim.Native.Nat.{◌-◌, ◌≤◌}
-use native.Mathlib.Nat.{le_antisymm}
-use native.Mathlib.Omega.{arith}
-use lib.ListN.{length, length-set}
-use borrow.Author.Rules.{rules}
-use Rattle.closure.proofs.ClosureLaws.{replaced, replaced_none, replaced_more, replaced_all}
+use lib.ListN.{length}
+use Rattle.closure.proofs.ClosureLaws.{replaced}
 use Rattle.closure.proofs.closed.Given as goal
 
 abbrev pub invariant-loop-k : goal.invariant-loop-k

@@ -1,18 +1,9 @@
 -- `least_sum` meets its contract: after j steps best is the smallest of the entry and the sums by a first part up to j. Assumes nothing.
-use mathlib.Core.Path.{◌≡◌, refl, ap, ◌∙◌}
-use mathlib.Core.Logic.{⊎_elim}
+use mathlib.Core.Path.{◌≡◌}
 use mathlib.Core.List.{List}
-use Prim.Native.Nat.{ℕ, suc, ◌+◌, ◌-◌, ◌≤◌, min}
-use native.Mathlib.Nat.{le_antisymm}
-use native.Mathlib.Omega.{arith}
-use borrow.Author.Rules.{rules}
-use lib.ListN.{get_or}
-use mir.Val.{Fits}
-use mir.Syntax.{w16}
+use Prim.Native.Nat.{ℕ, suc, ◌+◌, ◌-◌, ◌≤◌}
 use Rattle.ranges.specs.Least.{smallest}
-use Rattle.ranges.proofs.LeastLaws.{smallest_more}
 use Rattle.curves.specs.Cost.{entry}
-use Rattle.curves.proofs.CostLaws.{entry_at}
 use Rattle.closure.proofs.least_sum.Given as goal
 
 -- the sum by a first part of position i + 1

@@ -1,5 +1,4 @@
 -- The analyser's sheet, and the row that it leaves.
-use borrow.Author.Rules.{rules}
 use Rattle.cuorfelt.proofs.cuorfelt_analyse.Goals as goal
 
 pub returns : goal.returns

@@ -2,7 +2,6 @@
 use mathlib.Core.Path.{ap, ◌∙◌}
 use Rattle.reader.specs.declared.Reading.{Reading}
 use Rattle.reader.proofs.Accepted.{reading_is}
-use borrow.Author.Rules.{rules}
 use Rattle.cuorfelt.proofs.cuorfelt_read.Goals as goal
 
 pub returns : goal.returns

@@ -2,7 +2,6 @@
 use mathlib.Core.Path.{◌∙◌}
 use native.Mathlib.Omega.{arith}
 use Rattle.cuorfelt.proofs.EdgeLaws.{start_short, start_size, start_refused, start_done}
-use borrow.Author.Rules.{rules}
 use Rattle.cuorfelt.proofs.cuorfelt_start.Goals as goal
 
 pub returns-then-state-ne-STATE_LENGTH : goal.returns-then-state-ne-STATE_LENGTH

@@ -3,7 +3,6 @@ use mathlib.Core.Path.{ap, ◌∙◌}
 use Rattle.executor.specs.declared.Machine.{Machine}
 use Rattle.faults.specs.Faults.{table_fault}
 use Rattle.layout.proofs.LayoutLaws.{table_faultless}
-use native.Mathlib.Omega.{arith}
 use borrow.Author.Tests.{not-true, not-false}
 use Rattle.layout.proofs.UnpackingLaws.{laid_no, laid_yes, laid_machine}
 use Rattle.cuorfelt.proofs.EdgeLaws.{tick_none, tick_refused, tick_done}

@@ -5,7 +5,6 @@ use Rattle.table.specs.declared.Refusal.{Refusal}
 use Rattle.answers.specs.declared.Outcome.TheVariants.{Refused}
 use Rattle.answers.specs.Outcome.{reply_of}
 use Rattle.cuorfelt.specs.Edge.{no_state}
-use borrow.Author.Rules.{rules}
 use Rattle.cuorfelt.proofs.no_state.Goals as goal
 
 pub returns : goal.returns

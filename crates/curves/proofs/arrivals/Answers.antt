@@ -1,5 +1,4 @@
 -- `arrivals` meets its contract: the smaller of the two roundings is the definition's, and no more than the length.
-use borrow.Author.Rules.{rules}
 use native.Mathlib.Omega.{arith}
 use Rattle.curves.specs.Arrivals.{ceiling, arrivals}
 use Rattle.curves.proofs.ArrivalsLaws.{arrivals-some, arrivals-le}

@@ -1,9 +1,8 @@
 -- `reach` meets its contract. With the demand at most `most`, its budgets and its periods are at most 59,999, so nothing overflows.
-use mathlib.Core.Path.{◌≡◌, sym, ◌∙◌}
+use mathlib.Core.Path.{sym, ◌∙◌}
 use Prim.Native.Nat.{ℕ, ◌*◌, ◌-◌, ◌/◌, ◌≤◌}
 use native.Mathlib.Nat.{div-le_self, div-mul-le_self, mul-le-mul}
 use native.Mathlib.Omega.{arith}
-use borrow.Author.Rules.{rules}
 use Rattle.numbers.specs.Numbers.{longest}
 use Rattle.curves.proofs.SupplyLaws.{reach_above, reach_inside, reach-none, reach-some}
 use Rattle.curves.specs.Parts.{reach}

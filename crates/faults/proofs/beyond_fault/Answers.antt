@@ -1,5 +1,5 @@
 -- Each test of the definition is one of the code.
-use borrow.Author.Tests.{lt-ltb, le-ltb, not-true, not-false}
+use borrow.Author.Tests.{lt-ltb, le-ltb}
 use Rattle.faults.specs.Faults.{beyond_wrong}
 use Rattle.faults.proofs.beyond_fault.Goals as goal
 

@@ -1,7 +1,6 @@
 -- The three faults of a slot in turn.
 use mathlib.Core.Path.{sym, ◌∙◌}
 use Rattle.faults.specs.Faults.{slot_wrong}
-use borrow.Author.Rules.{rules}
 use Rattle.faults.proofs.slot_fault.Goals as goal
 
 pub returns-then-beyond_fault : goal.returns-then-beyond_fault

@@ -1,14 +1,10 @@
 -- No slot passed has a fault.
-use mathlib.Core.Path.{◌≡◌, refl, sym, ◌∙◌}
-use mathlib.Core.Bool.{Bool, false}
-use Prim.Native.Nat.{ℕ, ◌≤◌, ◌-◌}
-use native.Mathlib.Omega.{arith}
-use borrow.Author.Rules.{rules}
+use mathlib.Core.Path.{◌≡◌}
+use mathlib.Core.Bool.{false}
+use Prim.Native.Nat.{◌≤◌, ◌-◌}
 use Rattle.ranges.specs.Every.{some}
-use Rattle.ranges.proofs.EveryLaws.{some-hit, some_more, some_fewer}
 use Rattle.numbers.specs.Numbers.{places}
 use Rattle.faults.specs.Faults.{slot_fault}
-use Rattle.faults.proofs.ValueLaws.{slot_is}
 use Rattle.faults.proofs.slots_fault.Given as goal
 
 abbrev pub invariant-loop-i : goal.invariant-loop-i

@@ -1,6 +1,5 @@
 -- The rules of the reader.
 use Rattle.faults.proofs.ValueLaws.{table_judged}
-use borrow.Author.Rules.{rules}
 use Rattle.faults.proofs.table_fault.Goals as goal
 
 pub returns : goal.returns

@@ -2,8 +2,8 @@ use mathlib.Core.Path.{sym, ◌∙◌}
 use native.Mathlib.Omega.{arith}
 use borrow.Author.Rules.{rules}
 use Rattle.masks.proofs.Search.{lowest_set, without_less}
-use Rattle.folding.specs.Folding.{folds, folded_of}
-use Rattle.folding.proofs.FoldingLaws.{Sifted, sifted, sifted_took, sifted_left, sifted_all}
+use Rattle.folding.specs.Folding.{folded_of}
+use Rattle.folding.proofs.FoldingLaws.{sifted, sifted_took, sifted_left, sifted_all}
 use Rattle.folding.proofs.folded.Goals as goal
 use Rattle.folding.proofs.folded.Goals.{then-folds, else-folds}
 

@@ -1,11 +1,6 @@
 -- `folded` meets its contract. The loop: of the slots passed, the mask so far has those whose beat is folded. What is left of the mask falls.
-use mathlib.Core.Path.{sym, ◌∙◌}
-use mathlib.Core.Logic.{⊎_elim}
-use native.Mathlib.Omega.{arith}
-use borrow.Author.Rules.{rules}
-use Rattle.masks.proofs.Search.{lowest_set, without_less}
-use Rattle.folding.specs.Folding.{folds, folded_of}
-use Rattle.folding.proofs.FoldingLaws.{Sifted, sifted, sifted_took, sifted_left, sifted_all}
+use Rattle.folding.specs.Folding.{folds}
+use Rattle.folding.proofs.FoldingLaws.{Sifted}
 use Rattle.folding.proofs.folded.Given as goal
 
 abbrev pub invariant-loop-rest : goal.invariant-loop-rest

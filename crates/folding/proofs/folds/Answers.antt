@@ -1,7 +1,6 @@
 -- `folds` meets its contract: case by case.
 use Rattle.folding.proofs.FoldingLaws.{folds_not, folds_behind, folds_other}
 use native.Mathlib.Omega.{arith}
-use borrow.Author.Rules.{rules}
 use Rattle.folding.proofs.folds.Goals as goal
 
 pub returns-then-kind-ne-TIMER : goal.returns-then-kind-ne-TIMER

@@ -1,12 +1,8 @@
 -- After i steps the first i numbers are those that the bytes hold.
-use mathlib.Core.Path.{◌≡◌, refl, sym, ap, ◌∙◌}
-use Prim.Native.Nat.{ℕ, ◌≤◌, ◌-◌, ◌+◌, ◌*◌}
-use lib.ListN.{length, take, set, length-set}
-use lib.Seq.{take_all}
-use native.Mathlib.Omega.{arith}
-use borrow.Author.Rules.{rules}
-use Rattle.lent.specs.Bytes.{numbers, get}
-use Rattle.lent.proofs.Fields.{numbers-step}
+use mathlib.Core.Path.{◌≡◌}
+use Prim.Native.Nat.{◌≤◌, ◌-◌}
+use lib.ListN.{length, take}
+use Rattle.lent.specs.Bytes.{numbers}
 use Rattle.layout.proofs.get_u32s.Given as goal
 
 abbrev pub invariant-loop-i : goal.invariant-loop-i

@@ -3,7 +3,6 @@ use mathlib.Core.Path.{ap, ◌∙◌}
 use mathlib.Core.Bool.{false}
 use Rattle.executor.specs.declared.Machine.{Machine}
 use Rattle.executor.specs.State.{fresh}
-use borrow.Author.Rules.{rules}
 use Rattle.layout.proofs.no_state.Goals as goal
 
 pub returns : goal.returns

@@ -5,13 +5,11 @@ use native.Mathlib.Nat.{sub-zero}
 use lib.ListN.{take}
 use native.Mathlib.Omega.{arith}
 use mathlib.Core.Bool.{true}
-use borrow.Author.Tests.{not-false}
 use Rattle.table.specs.declared.Table.{Table}
 use Rattle.executor.specs.declared.Machine.{Machine}
 use Rattle.layout.specs.Layout.{table_end, table_part, tail_at, machine_of, unpacked}
 use Rattle.layout.proofs.LayoutLaws.{Laid, end_before}
 use Rattle.layout.proofs.UnpackingLaws.{not_laid_lem, is_laid, not_zero, part_number, part_table}
-use borrow.Author.Rules.{rules}
 use Rattle.layout.proofs.unpack.Goals as goal
 
 pub returns-then-state-ne-STATE_LENGTH : goal.returns-then-state-ne-STATE_LENGTH

@@ -1,6 +1,5 @@
 -- Each part of the state is read from its place.
 use Rattle.layout.proofs.LayoutLaws.{unpack_parts}
-use borrow.Author.Rules.{rules}
 use Rattle.layout.proofs.unpack_with.Goals as goal
 
 pub returns : goal.returns

@@ -1,10 +1,8 @@
 use mathlib.Core.Path.{◌≡◌, ap, ◌∙◌}
-use Prim.Native.Nat.{◌≤◌, ◌-◌}
-use lib.Dec.{eqb}
+use Prim.Native.Nat.{◌-◌}
 use Rattle.lent.specs.Bytes.{zeros}
 use Rattle.lent.proofs.Spare.{zeros-none, zeros_more}
 use native.Mathlib.Omega.{arith}
-use borrow.Author.Rules.{rules}
 use Rattle.lent.proofs.all_zero.Goals as goal
 
 pub loop-i-init : goal.loop-i-init

@@ -1,12 +1,11 @@
-use mathlib.Core.Path.{◌≡◌, sym, ap, ◌∙◌}
+use mathlib.Core.Path.{sym, ap, ◌∙◌}
 use mathlib.Core.List.{List}
-use Prim.Native.Nat.{ℕ, ◌≤◌, ◌-◌, ◌+◌}
-use lib.ListN.{length, take, set, get_or}
+use Prim.Native.Nat.{ℕ, ◌+◌}
+use lib.ListN.{length, set, get_or}
 use lib.Seq.{take_all}
 use Rattle.lent.specs.Over.{over}
 use Rattle.lent.proofs.Replace.{over_nil, over-take, over-take-length}
 use native.Mathlib.Omega.{arith}
-use borrow.Author.Rules.{rules}
 use Rattle.lent.proofs.copy.Goals as goal
 
 pub loop-i-init : goal.loop-i-init

@@ -1,7 +1,6 @@
 -- Four bytes side by side are a number of four bytes.
 use native.Mathlib.Omega.{arith}
 use Rattle.lent.proofs.Numbers.{get_four}
-use borrow.Author.Rules.{rules}
 use Rattle.lent.proofs.get_u32.Goals as goal
 
 pub returns : goal.returns

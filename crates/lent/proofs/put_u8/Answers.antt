@@ -1,7 +1,6 @@
 -- One store is a part of one byte.
 use native.Mathlib.Omega.{arith}
 use Rattle.lent.proofs.Replace.{over-one}
-use borrow.Author.Rules.{rules}
 use Rattle.lent.proofs.put_u8.Goals as goal
 
 pub returns : goal.returns

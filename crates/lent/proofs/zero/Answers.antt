@@ -1,11 +1,10 @@
 use mathlib.Core.Path.{◌≡◌, sym, ap, ◌∙◌}
 use mathlib.Core.List.{List}
-use Prim.Native.Nat.{ℕ, ◌≤◌, ◌-◌, ◌+◌}
+use Prim.Native.Nat.{ℕ, ◌+◌}
 use lib.ListN.{length, replicate, set}
 use Rattle.lent.specs.Over.{over}
 use Rattle.lent.proofs.Replace.{over_nil, over_replicate, over_replicate_length}
 use native.Mathlib.Omega.{arith}
-use borrow.Author.Rules.{rules}
 use Rattle.lent.proofs.zero.Goals as goal
 
 pub loop-i-init : goal.loop-i-init

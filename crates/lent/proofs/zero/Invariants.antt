@@ -1,12 +1,8 @@
 -- After i steps i bytes are zero, and every other byte is as it was.
-use mathlib.Core.Path.{◌≡◌, sym, ap, ◌∙◌}
-use mathlib.Core.List.{List}
-use Prim.Native.Nat.{ℕ, ◌≤◌, ◌-◌, ◌+◌}
-use lib.ListN.{length, replicate, set}
+use mathlib.Core.Path.{◌≡◌}
+use Prim.Native.Nat.{◌≤◌, ◌-◌}
+use lib.ListN.{replicate}
 use Rattle.lent.specs.Over.{over}
-use Rattle.lent.proofs.Replace.{over_nil, over_replicate, over_replicate_length}
-use native.Mathlib.Omega.{arith}
-use borrow.Author.Rules.{rules}
 use Rattle.lent.proofs.zero.Given as goal
 
 abbrev pub invariant-loop-i : goal.invariant-loop-i

@@ -1,14 +1,10 @@
 use mathlib.Core.Path.{◌≡◌, refl, sym, ap, ap₂, ◌∙◌}
-use mathlib.Core.Logic.{⊎_elim}
 use mathlib.Core.Bool.{Bool}
 use Prim.Native.Nat.{ℕ, ◌+◌, ◌-◌, ◌≤◌, max}
 use native.Mathlib.Omega.{arith}
-use borrow.Author.Rules.{rules}
-use Rattle.masks.specs.Mask.{has}
 use Rattle.ranges.specs.Sum.{given}
 use Rattle.ranges.specs.Least.{largest}
 use Rattle.ranges.proofs.LeastLaws.{largest_more}
-use Rattle.table.specs.declared.Table.{Table}
 use Rattle.windows.specs.Bounds.{cost_of}
 use Rattle.windows.proofs.TableLaws.{costed}
 use Rattle.levels.specs.Levels.{blocking_by}

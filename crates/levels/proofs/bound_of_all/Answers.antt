@@ -1,6 +1,5 @@
 -- `bound_of_all` meets its contract: that of the level of all callbacks.
 use mathlib.Core.Path.{sym, ap, ◌∙◌}
-use borrow.Author.Rules.{rules}
 use Rattle.masks.specs.Mask.{has}
 use Rattle.masks.proofs.Slots.{has_zero}
 use Rattle.windows.specs.declared.Level.{Level}

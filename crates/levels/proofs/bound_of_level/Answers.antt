@@ -1,7 +1,6 @@
 -- `bound_of_level` meets its contract: the level that it builds is that of slot x.
 use mathlib.Core.Path.{◌≡◌, ap, ◌∙◌}
 use Prim.Native.Nat.{ℕ}
-use borrow.Author.Rules.{rules}
 use Rattle.masks.specs.Mask.{has}
 use Rattle.windows.specs.declared.Level.{Level}
 use Rattle.windows.specs.Bounds.{bound_in}

@@ -1,7 +1,6 @@
 -- `everyone` meets its contract: nobody is below, and lengths go up to the table's horizon.
 use mathlib.Core.Path.{ap}
 use Prim.Native.Nat.{ℕ}
-use borrow.Author.Rules.{rules}
 use Rattle.windows.specs.declared.Level.{Level}
 use Rattle.levels.proofs.everyone.Goals as goal
 

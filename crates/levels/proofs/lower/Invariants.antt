@@ -1,14 +1,8 @@
 -- `lower` meets its contract. The loop: the mask so far is that of the slots passed.
-use mathlib.Core.Path.{◌≡◌, refl, sym, ap, ◌∙◌}
-use mathlib.Core.Logic.{⊎_elim}
-use mathlib.Core.Bool.{Bool}
-use Prim.Native.Nat.{ℕ, ◌+◌, ◌-◌, ◌≤◌}
-use native.Mathlib.Omega.{arith}
-use borrow.Author.Rules.{rules}
+use mathlib.Core.Path.{◌≡◌}
+use Prim.Native.Nat.{◌-◌, ◌≤◌}
 use Rattle.masks.specs.Mask.{gather}
-use Rattle.masks.proofs.Gather.{gather_took, gather-left}
 use Rattle.priority.specs.Priority.{precedes}
-use Rattle.levels.specs.Levels.{lower_than}
 use Rattle.levels.proofs.lower.Given as goal
 
 abbrev pub invariant-loop-i : goal.invariant-loop-i

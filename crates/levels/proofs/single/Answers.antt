@@ -1,6 +1,5 @@
 -- `single` meets its contract: the cost curve at 1.
 use native.Mathlib.Omega.{arith}
-use borrow.Author.Rules.{rules}
 use Rattle.levels.specs.Parts.{single_of}
 use Rattle.levels.proofs.single.Goals as goal
 

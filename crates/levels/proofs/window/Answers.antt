@@ -1,7 +1,6 @@
 -- `window` meets its contract: that of the level of all callbacks.
 use mathlib.Core.Path.{ap, ◌∙◌}
 use native.Mathlib.Omega.{arith}
-use borrow.Author.Rules.{rules}
 use Rattle.windows.specs.declared.Level.{Level}
 use Rattle.windows.specs.Bounds.{window_in}
 use Rattle.windows.proofs.TableLaws.{horizon_in}

@@ -1,13 +1,8 @@
 use mathlib.Core.Path.{◌≡◌, sym, ap, ◌∙◌}
 use mathlib.Core.Bool.{Bool, true, false}
-use Prim.Native.Nat.{ℕ, ◌≤◌, ◌-◌}
 use native.Mathlib.Omega.{arith}
-use Rattle.masks.specs.Mask.{has}
-use Rattle.ranges.specs.Least.{lowest}
-use Rattle.ranges.proofs.LeastLaws.{rest_slots, slots_start, slots_end, slots_hit, slots_miss}
-use Rattle.table.specs.declared.Table.{Table}
+use Rattle.ranges.proofs.LeastLaws.{slots_start, slots_end, slots_hit, slots_miss}
 use Rattle.table.specs.Values.{callback_at}
-use borrow.Author.Rules.{rules}
 use Rattle.link_rules.specs.LinkRules.{arrivals_fault}
 use Rattle.link_rules.proofs.first_wrong.Invariants.{wrong}
 use Rattle.link_rules.proofs.first_wrong.Goals as goal

@@ -1,14 +1,12 @@
 -- `first_wrong` meets its contract: what is left of the search at i is the whole. Assumes nothing.
-use mathlib.Core.Path.{◌≡◌, sym, ap, ◌∙◌}
-use mathlib.Core.Bool.{Bool, true, false}
+use mathlib.Core.Path.{◌≡◌}
+use mathlib.Core.Bool.{Bool}
 use Prim.Native.Nat.{ℕ, ◌≤◌, ◌-◌}
-use native.Mathlib.Omega.{arith}
 use Rattle.masks.specs.Mask.{has}
 use Rattle.ranges.specs.Least.{lowest}
-use Rattle.ranges.proofs.LeastLaws.{rest_slots, slots_start, slots_end, slots_hit, slots_miss}
+use Rattle.ranges.proofs.LeastLaws.{rest_slots}
 use Rattle.table.specs.declared.Table.{Table}
 use Rattle.table.specs.Values.{callback_at}
-use borrow.Author.Rules.{rules}
 use Rattle.link_rules.specs.LinkRules.{arrivals_fault}
 use Rattle.link_rules.proofs.first_wrong.Given as goal
 

@@ -8,7 +8,6 @@ use Rattle.numbers.specs.Numbers
 use Rattle.table.specs.declared.Table.{Table}
 use Rattle.table.specs.Values.{refuse, accepted, callback_at, kind_of, lowest_refused}
 use Rattle.table.specs.Links.{named, is_head, on_loop}
-use borrow.Author.Rules.{rules}
 use Rattle.link_rules.specs.LinkRules.{arrivals_fault, links_fault}
 use Rattle.table.proofs.RefusalLaws.{lowest-refused, lowest_passed}
 use Rattle.link_rules.proofs.LinkLaws.{twice_law, timer_law, wrong_law}

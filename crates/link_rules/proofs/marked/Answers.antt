@@ -1,9 +1,8 @@
-use mathlib.Core.Path.{◌≡◌, sym, ap, ◌∙◌}
-use Prim.Native.Nat.{ℕ, ◌+◌, ◌-◌, ◌≤◌}
+use mathlib.Core.Path.{sym, ap, ◌∙◌}
+use Prim.Native.Nat.{ℕ, ◌+◌, ◌-◌}
 use native.Mathlib.Omega.{arith}
 use Rattle.table.specs.Values.{next_of}
 use Rattle.link_rules.proofs.LoopLaws.{marks_start, marks-over, marks_end, marks_more, known}
-use borrow.Author.Rules.{rules}
 use Rattle.link_rules.specs.Parts.{marks}
 use Rattle.link_rules.proofs.marked.Goals as goal
 

@@ -1,10 +1,7 @@
 -- `marked` meets its contract: what is left of the walk gives what the whole gives. Assumes nothing.
-use mathlib.Core.Path.{◌≡◌, sym, ap, ◌∙◌}
-use Prim.Native.Nat.{ℕ, ◌+◌, ◌-◌, ◌≤◌}
-use native.Mathlib.Omega.{arith}
+use mathlib.Core.Path.{◌≡◌}
+use Prim.Native.Nat.{◌-◌, ◌≤◌}
 use Rattle.table.specs.Values.{next_of}
-use Rattle.link_rules.proofs.LoopLaws.{marks_start, marks-over, marks_end, marks_more, known}
-use borrow.Author.Rules.{rules}
 use Rattle.link_rules.specs.Parts.{marks}
 use Rattle.link_rules.proofs.marked.Given as goal
 

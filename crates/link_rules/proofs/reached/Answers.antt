@@ -1,10 +1,8 @@
-use mathlib.Core.Path.{◌≡◌, sym, ap, ◌∙◌}
-use Prim.Native.Nat.{◌-◌, ◌≤◌}
+use mathlib.Core.Path.{sym, ap, ◌∙◌}
 use native.Mathlib.Nat.{le_antisymm}
 use native.Mathlib.Omega.{arith}
 use Rattle.table.specs.Values.{next_of}
 use Rattle.link_rules.proofs.LoopLaws.{reached_start, reached_in, reached_out}
-use borrow.Author.Rules.{rules}
 use Rattle.link_rules.specs.Parts.{marks, reached_to}
 use Rattle.link_rules.proofs.reached.Goals as goal
 use Rattle.link_rules.proofs.reached.Goals.{then-test_slot, else-test_slot}

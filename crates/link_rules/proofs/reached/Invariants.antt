@@ -1,13 +1,7 @@
 -- `reached` meets its contract: after i slots, what the heads below i reach. Assumes nothing.
-use mathlib.Core.Path.{◌≡◌, sym, ap, ◌∙◌}
-use mathlib.Core.Logic.{⊎_elim}
+use mathlib.Core.Path.{◌≡◌}
 use Prim.Native.Nat.{◌-◌, ◌≤◌}
-use native.Mathlib.Nat.{le_antisymm}
-use native.Mathlib.Omega.{arith}
-use Rattle.table.specs.Values.{next_of}
-use Rattle.link_rules.proofs.LoopLaws.{reached_start, reached_in, reached_out}
-use borrow.Author.Rules.{rules}
-use Rattle.link_rules.specs.Parts.{marks, reached_to}
+use Rattle.link_rules.specs.Parts.{reached_to}
 use Rattle.link_rules.proofs.reached.Given as goal
 
 abbrev pub invariant-loop-i : goal.invariant-loop-i

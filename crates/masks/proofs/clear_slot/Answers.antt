@@ -1,6 +1,5 @@
 -- 'and' with all but the mask 2 ^ slot takes it away just where the slot is there.
 use Rattle.masks.proofs.Operators.{clear_law}
-use borrow.Author.Rules.{rules}
 use Rattle.masks.proofs.clear_slot.Goals as goal
 
 pub returns : goal.returns

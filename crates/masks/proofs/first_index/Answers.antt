@@ -4,7 +4,6 @@ use Prim.Native.Nat.{suc}
 use native.Mathlib.Numerals.{add-one}
 use native.Mathlib.Omega.{arith}
 use Rattle.masks.proofs.Search.{first_of_le}
-use borrow.Author.Rules.{rules}
 use Rattle.masks.proofs.Index.{index_none, index_some}
 use Rattle.masks.proofs.first_index.Goals as goal
 

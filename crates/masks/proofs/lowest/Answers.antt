@@ -1,6 +1,5 @@
 -- A mask of sixteen bits that is not 0 has a first slot, below sixteen.
 use native.Mathlib.Omega.{arith}
-use borrow.Author.Rules.{rules}
 use Rattle.masks.proofs.Search.{first_below}
 use Rattle.masks.proofs.lowest.Goals as goal
 

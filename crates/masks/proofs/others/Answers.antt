@@ -4,7 +4,6 @@ use Prim.Native.Nat.{ℕ, ◌-◌}
 use native.Mathlib.Omega.{arith}
 use lib.Bits.{bit_and}
 use Rattle.masks.proofs.Operators.{and_not, one_shl_32}
-use borrow.Author.Rules.{rules}
 use Rattle.masks.proofs.others.Goals as goal
 
 pub overflow_sub-all : goal.overflow_sub-all

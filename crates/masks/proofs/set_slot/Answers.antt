@@ -1,6 +1,5 @@
 -- 'or' with the mask 2 ^ slot adds it just where the slot is not there.
 use Rattle.masks.proofs.Operators.{set_law}
-use borrow.Author.Rules.{rules}
 use Rattle.masks.proofs.set_slot.Goals as goal
 
 pub returns : goal.returns

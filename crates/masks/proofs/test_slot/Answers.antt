@@ -1,6 +1,5 @@
 -- The bit is left by the mask 2 ^ slot just where the slot is there.
 use Rattle.masks.proofs.Operators.{test_law}
-use borrow.Author.Rules.{rules}
 use Rattle.masks.proofs.test_slot.Goals as goal
 
 pub returns : goal.returns

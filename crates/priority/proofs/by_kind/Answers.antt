@@ -1,10 +1,8 @@
-use mathlib.Core.Path.{◌≡◌, refl, ap, ◌∙◌}
-use Prim.Native.Nat.{◌≤◌, ◌-◌}
+use mathlib.Core.Path.{refl, ap, ◌∙◌}
 use native.Mathlib.Nat.{le_antisymm}
 use native.Mathlib.Omega.{arith}
 use Rattle.masks.specs.Mask.{gather}
 use Rattle.table.specs.Values.{kind_of}
-use borrow.Author.Rules.{rules}
 use Rattle.priority.specs.declared.Kinds.{Kinds}
 use Rattle.priority.specs.Parts.{kinds_to, sort_one}
 use Rattle.priority.proofs.PriorityLaws.{kinds_more}

@@ -1,6 +1,5 @@
 -- `foremost` meets its contract: the kinds are asked in their order. Assumes nothing.
 use mathlib.Core.Path.{sym, ◌∙◌}
-use borrow.Author.Rules.{rules}
 use Rattle.priority.specs.Parts.{foremost_in}
 use Rattle.priority.proofs.PriorityLaws.{next_some, next_none}
 use Rattle.priority.proofs.foremost.Goals as goal

@@ -1,6 +1,5 @@
 -- `sort_one` meets its contract: the slot goes into the mask of its kind. Assumes nothing.
 use borrow.Author.Tests.{ne_eqb}
-use borrow.Author.Rules.{rules}
 use Rattle.priority.specs.Parts.{sort_one}
 use Rattle.priority.proofs.sort_one.Goals as goal
 

@@ -1,7 +1,6 @@
 -- `read_by` meets its contract: 1 and 4 from the bytes, 2 and 3 from the first two, the rest from the values that they hold. Assumes nothing.
 use mathlib.Core.Path.{◌≡◌, sym, ap, ◌∙◌, subst}
 use native.Mathlib.Omega.{arith}
-use borrow.Author.Rules.{rules}
 use lib.ListN.{get_or}
 use Prim.Native.Nat.{◌≤◌}
 use Rattle.numbers.specs.Numbers.{places}

@@ -2,7 +2,6 @@
 use native.Mathlib.Nat.{add-zero}
 use Rattle.lent.specs.Bytes.{numbers, fields_at}
 use Rattle.reader.specs.Format.{record_at}
-use borrow.Author.Rules.{rules}
 use Rattle.reader.proofs.record_at.Goals as goal
 
 pub returns : goal.returns

@@ -1,7 +1,6 @@
 -- `refusing` meets its contract. Assumes nothing.
 use mathlib.Core.Path.{ap}
 use Rattle.table.specs.declared.Table.{Table}
-use borrow.Author.Rules.{rules}
 use Rattle.reader.proofs.refusing.Goals as goal
 
 pub returns : goal.returns

@@ -1,7 +1,5 @@
 -- `spare_at` meets its contract: one run of spare bytes after the other. Assumes nothing.
-use borrow.Author.Tests.{not-true, not-false}
 use Rattle.reader.proofs.FormatLaws.{spare_first, spare_second, spare_third}
-use borrow.Author.Rules.{rules}
 use Rattle.reader.proofs.spare_at.Goals as goal
 
 pub returns-then-not-all_zero : goal.returns-then-not-all_zero

@@ -1,14 +1,8 @@
-use mathlib.Core.Path.{◌≡◌, refl, sym, ap, ◌∙◌}
-use mathlib.Core.Logic.{⊎_elim}
-use mathlib.Core.Bool.{Bool}
-use mathlib.Core.List.{List}
-use Prim.Native.Nat.{ℕ, ◌≤◌, ◌-◌}
+use mathlib.Core.Path.{refl, sym, ap, ◌∙◌}
 use native.Mathlib.Nat.{le_antisymm}
 use native.Mathlib.Omega.{arith}
-use lib.ListN.{get_or}
 use Rattle.masks.specs.Mask.{gather}
-use Rattle.reader.specs.Format.{spare_at, record_start, spares_at}
-use borrow.Author.Rules.{rules}
+use Rattle.reader.specs.Format.{spares_at}
 use Rattle.masks.proofs.Gather.{gather_took, gather-left}
 use Rattle.reader.proofs.spares_at.Invariants.{spare_in}
 use Rattle.reader.proofs.spares_at.Goals as goal

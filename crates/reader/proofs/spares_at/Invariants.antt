@@ -1,16 +1,11 @@
 -- `spares_at` meets its contract: after i records the mask has those of them with a spare byte not zero. Assumes nothing.
-use mathlib.Core.Path.{◌≡◌, refl, sym, ap, ◌∙◌}
-use mathlib.Core.Logic.{⊎_elim}
+use mathlib.Core.Path.{◌≡◌}
 use mathlib.Core.Bool.{Bool}
 use mathlib.Core.List.{List}
 use Prim.Native.Nat.{ℕ, ◌≤◌, ◌-◌}
-use native.Mathlib.Nat.{le_antisymm}
-use native.Mathlib.Omega.{arith}
 use lib.ListN.{get_or}
 use Rattle.masks.specs.Mask.{gather}
-use Rattle.reader.specs.Format.{spare_at, record_start, spares_at}
-use borrow.Author.Rules.{rules}
-use Rattle.masks.proofs.Gather.{gather_took, gather-left}
+use Rattle.reader.specs.Format.{spare_at, record_start}
 use Rattle.reader.proofs.spares_at.Given as goal
 
 abbrev pub spare_in : List ℕ → ℕ → Bool

@@ -1,13 +1,9 @@
-use mathlib.Core.Path.{◌≡◌}
-use Prim.Native.Nat.{◌≤◌, ◌-◌}
 use native.Mathlib.Nat.{le_antisymm}
 use native.Mathlib.Omega.{arith}
-use lib.ListN.{get_or}
-use Rattle.table.specs.Values.{headless, placed}
+use Rattle.table.specs.Values.{placed}
 use Rattle.table.proofs.PlacedLaws.{headless_more}
-use Rattle.reader.specs.Format.{record_at, record_start, records_to}
+use Rattle.reader.specs.Format.{record_at, record_start}
 use Rattle.reader.proofs.FormatLaws.{table-whole}
-use borrow.Author.Rules.{rules}
 use Rattle.reader.proofs.table_at.Goals as goal
 
 pub loop-i-init : goal.loop-i-init

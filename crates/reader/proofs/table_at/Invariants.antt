@@ -1,14 +1,9 @@
 -- `table_at` meets its contract: after i records the first i places are filled. Assumes nothing.
 use mathlib.Core.Path.{◌≡◌}
 use Prim.Native.Nat.{◌≤◌, ◌-◌}
-use native.Mathlib.Nat.{le_antisymm}
-use native.Mathlib.Omega.{arith}
 use lib.ListN.{get_or}
-use Rattle.table.specs.Values.{headless, placed}
-use Rattle.table.proofs.PlacedLaws.{headless_more}
-use Rattle.reader.specs.Format.{record_at, record_start, records_to}
-use Rattle.reader.proofs.FormatLaws.{table-whole}
-use borrow.Author.Rules.{rules}
+use Rattle.table.specs.Values.{headless}
+use Rattle.reader.specs.Format.{records_to}
 use Rattle.reader.proofs.table_at.Given as goal
 
 abbrev pub invariant-loop-i : goal.invariant-loop-i

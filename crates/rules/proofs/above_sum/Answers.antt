@@ -1,6 +1,6 @@
-use mathlib.Core.Path.{◌≡◌, refl, ap, sym}
-use mathlib.Core.Bool.{true, not}
-use Prim.Native.Nat.{◌≤◌, ◌<◌, ◌-◌}
+use mathlib.Core.Path.{refl, ap, sym}
+use mathlib.Core.Bool.{not}
+use Prim.Native.Nat.{◌<◌, ◌-◌}
 use native.Mathlib.Omega.{arith}
 use Rattle.ranges.specs.Every.{every}
 use Rattle.ranges.proofs.EveryLaws.{every_more, every_miss}

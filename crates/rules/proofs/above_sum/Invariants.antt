@@ -1,16 +1,9 @@
 -- `above_sum` meets its contract: the first j ways to split k + 1 in two have no lower sum, and half of them suffice. Assumes nothing.
-use mathlib.Core.Path.{◌≡◌, refl, ap, sym}
-use mathlib.Core.Bool.{true, not}
-use Prim.Native.Nat.{◌≤◌, ◌<◌, ◌-◌}
-use native.Mathlib.Omega.{arith}
+use mathlib.Core.Path.{◌≡◌}
+use mathlib.Core.Bool.{true}
+use Prim.Native.Nat.{◌≤◌, ◌-◌}
 use Rattle.ranges.specs.Every.{every}
-use Rattle.ranges.proofs.EveryLaws.{every_more, every_miss}
 use Rattle.rules.specs.Rules.{joins}
-use Rattle.rules.proofs.RulesLaws.{joins_not, joins_well, joins_half}
-use borrow.Author.Rules.{rules}
-use lib.ListN.{get_or}
-use mir.Val.{Fits}
-use mir.Syntax.{w16}
 use Rattle.rules.proofs.above_sum.Given as goal
 
 abbrev pub invariant-loop-j : goal.invariant-loop-j

@@ -1,6 +1,5 @@
 -- `body_fault` meets its contract: the header's tests in their order, then the records, then the links. Assumes nothing.
 use mathlib.Core.Path.{◌≡◌, sym, ap, ◌∙◌}
-use borrow.Author.Rules.{rules}
 use borrow.Author.Tests.{lt-ltb, le-ltb}
 use Rattle.table.specs.declared.Refusal.{Refusal}
 use Rattle.table.specs.Values.{or_else}

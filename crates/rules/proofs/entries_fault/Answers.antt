@@ -1,6 +1,5 @@
-use mathlib.Core.Path.{◌≡◌, refl, sym, ap, ◌∙◌}
-use mathlib.Core.Bool.{true}
-use Prim.Native.Nat.{ℕ, suc, ◌≤◌, ◌<◌, ◌-◌}
+use mathlib.Core.Path.{refl, sym, ap, ◌∙◌}
+use Prim.Native.Nat.{ℕ, suc, ◌<◌}
 use native.Mathlib.Nat.{le_antisymm}
 use native.Mathlib.Numerals.{add-one}
 use native.Mathlib.Omega.{arith}
@@ -8,7 +7,6 @@ use Rattle.curves.specs.Cost.{entry}
 use Rattle.ranges.specs.Every.{every}
 use Rattle.ranges.proofs.EveryLaws.{every_more}
 use Rattle.rules.proofs.RulesLaws.{rises, cost-none, cost_many, cost_miss, cost_all, falls, rises_far, rises_well}
-use borrow.Author.Rules.{rules}
 use Rattle.rules.proofs.entries_fault.Goals as goal
 
 pub returns-then-m-eq0 : goal.returns-then-m-eq0

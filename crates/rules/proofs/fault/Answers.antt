@@ -1,6 +1,5 @@
 -- `fault` meets its contract: edition and count, then the rest. Assumes nothing.
 use mathlib.Core.Path.{◌≡◌, sym, ap, ◌∙◌}
-use borrow.Author.Rules.{rules}
 use Rattle.table.specs.declared.Refusal.{Refusal}
 use Rattle.rules.specs.Rules.{head_fault, fault_of}
 use Rattle.rules.proofs.Passed.{head_passed}

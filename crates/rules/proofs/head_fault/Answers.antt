@@ -1,7 +1,6 @@
 -- `head_fault` meets its contract: the tests in their order. Assumes nothing.
 use mathlib.Core.Bool.{and-false}
 use native.Mathlib.Omega.{arith}
-use borrow.Author.Rules.{rules}
 use borrow.Author.Tests.{le-leb, lt-leb}
 use Rattle.ranges.proofs.EveryLaws.{within_holds}
 use Rattle.numbers.specs.Numbers.{edition_one, edition_two}

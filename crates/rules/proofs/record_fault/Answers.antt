@@ -4,7 +4,6 @@ use mathlib.Core.Bool.{and-false, or-true}
 use borrow.Author.Tests.{lt-ltb, le-ltb, le-leb, lt-leb}
 use Rattle.rules.specs.Rules.{record_fault_by}
 use Rattle.rules.proofs.Sound.{cost_count}
-use borrow.Author.Rules.{rules}
 use Rattle.rules.proofs.record_fault.Goals as goal
 
 pub returns-then-c-lt-TIMER : goal.returns-then-c-lt-TIMER

@@ -1,10 +1,8 @@
-use mathlib.Core.Path.{◌≡◌, sym, ap, ◌∙◌}
-use Prim.Native.Nat.{◌≤◌, ◌-◌}
+use mathlib.Core.Path.{sym, ap, ◌∙◌}
 use native.Mathlib.Omega.{arith}
 use Rattle.table.specs.Values.{callback_at}
-use Rattle.rules.specs.Rules.{record_fault_by, records_by}
+use Rattle.rules.specs.Rules.{record_fault_by}
 use Rattle.rules.proofs.RulesLaws.{records_next, records_stop, records_end, records_start}
-use borrow.Author.Rules.{rules}
 use Rattle.rules.proofs.records_fault.Goals as goal
 
 pub loop-i-init : goal.loop-i-init

@@ -1,11 +1,7 @@
 -- `reader::rules::records_fault` meets its contract: what is left of the records at i is the whole. Assumes nothing.
-use mathlib.Core.Path.{◌≡◌, sym, ap, ◌∙◌}
+use mathlib.Core.Path.{◌≡◌}
 use Prim.Native.Nat.{◌≤◌, ◌-◌}
-use native.Mathlib.Omega.{arith}
-use Rattle.table.specs.Values.{callback_at}
-use Rattle.rules.specs.Rules.{record_fault_by, records_by}
-use Rattle.rules.proofs.RulesLaws.{records_next, records_stop, records_end, records_start}
-use borrow.Author.Rules.{rules}
+use Rattle.rules.specs.Rules.{records_by}
 use Rattle.rules.proofs.records_fault.Given as goal
 
 abbrev pub invariant-loop-i : goal.invariant-loop-i

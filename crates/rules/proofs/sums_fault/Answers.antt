@@ -1,14 +1,13 @@
 use mathlib.Core.Path.{◌≡◌, refl, ap, sym, ◌∙◌}
 use mathlib.Core.Bool.{Bool, true, false, not, ◌&&◌}
-use Prim.Native.Nat.{ℕ, ◌≤◌, ◌-◌}
+use Prim.Native.Nat.{ℕ}
 use native.Mathlib.Nat.{le_antisymm}
 use native.Mathlib.Omega.{arith}
 use borrow.Author.Tests.{not-true, not-false}
 use Rattle.ranges.specs.Every.{every}
 use Rattle.ranges.proofs.EveryLaws.{every_more, every_miss, never_both}
 use Rattle.table.specs.declared.Callback.{Callback}
-use Rattle.rules.specs.Rules.{joins, sums_fault}
-use borrow.Author.Rules.{rules}
+use Rattle.rules.specs.Rules.{sums_fault}
 use Rattle.rules.proofs.sums_fault.Invariants.{lies}
 use Rattle.rules.proofs.sums_fault.Goals as goal
 

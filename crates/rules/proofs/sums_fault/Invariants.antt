@@ -1,15 +1,10 @@
 -- `sums_fault` meets its contract: none of the first k entries is above a sum. Assumes nothing.
-use mathlib.Core.Path.{◌≡◌, refl, ap, sym, ◌∙◌}
-use mathlib.Core.Bool.{Bool, true, false, not, ◌&&◌}
+use mathlib.Core.Path.{◌≡◌}
+use mathlib.Core.Bool.{Bool, true}
 use Prim.Native.Nat.{ℕ, ◌≤◌, ◌-◌}
-use native.Mathlib.Nat.{le_antisymm}
-use native.Mathlib.Omega.{arith}
-use borrow.Author.Tests.{not-true, not-false}
 use Rattle.ranges.specs.Every.{every}
-use Rattle.ranges.proofs.EveryLaws.{every_more, every_miss, never_both}
 use Rattle.table.specs.declared.Callback.{Callback}
-use Rattle.rules.specs.Rules.{joins, sums_fault}
-use borrow.Author.Rules.{rules}
+use Rattle.rules.specs.Rules.{joins}
 use Rattle.rules.proofs.sums_fault.Given as goal
 
 -- E(k + 1) is above no sum of two

@@ -1,11 +1,8 @@
-use mathlib.Core.Path.{◌≡◌}
-use mathlib.Core.Bool.{true, or-true}
-use Prim.Native.Nat.{ℕ, ◌≤◌, ◌<◌, ◌-◌}
+use mathlib.Core.Bool.{or-true}
 use native.Mathlib.Omega.{arith}
 use borrow.Author.Tests.{eq-eqb, lt-ltb}
 use borrow.Author.Count.{below_more}
-use Rattle.rules.proofs.RulesLaws.{blank_beyond, unused_miss, unused_all}
-use borrow.Author.Rules.{rules}
+use Rattle.rules.proofs.RulesLaws.{unused_miss, unused_all}
 use Rattle.rules.proofs.unused_fault.Goals as goal
 
 pub loop-k-init : goal.loop-k-init

@@ -1,12 +1,8 @@
 -- `reader::rules::unused_fault` meets its contract: the entries from m to k are zero. Assumes nothing.
 use mathlib.Core.Path.{◌≡◌}
-use mathlib.Core.Bool.{true, or-true}
+use mathlib.Core.Bool.{true}
 use Prim.Native.Nat.{ℕ, ◌≤◌, ◌<◌, ◌-◌}
-use native.Mathlib.Omega.{arith}
-use borrow.Author.Tests.{eq-eqb, lt-ltb}
-use borrow.Author.Count.{below_more}
-use Rattle.rules.proofs.RulesLaws.{blank_beyond, unused_miss, unused_all}
-use borrow.Author.Rules.{rules}
+use Rattle.rules.proofs.RulesLaws.{blank_beyond}
 use Rattle.rules.proofs.unused_fault.Given as goal
 
 abbrev pub invariant-loop-k : goal.invariant-loop-k

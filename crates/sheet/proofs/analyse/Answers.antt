@@ -11,7 +11,6 @@ use Rattle.rules.specs.Parts.{Sound}
 use Rattle.reader.proofs.Accepted.{reading_is, read_table, read_sound}
 use Rattle.sheet.specs.Parts.{refused_sheet, table_sheet, table_row}
 use Rattle.sheet.proofs.RefusalLaws.{short_row_lem, misread, well_read}
-use borrow.Author.Rules.{rules}
 use Rattle.sheet.proofs.analyse.Goals as goal
 use Rattle.sheet.proofs.analyse.Goals.{Else-fault-ne0}
 

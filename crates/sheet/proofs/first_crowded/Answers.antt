@@ -1,8 +1,7 @@
 use mathlib.Core.Path.{◌≡◌, sym, subst, ◌∙◌}
-use Prim.Native.Nat.{ℕ, ◌-◌, ◌≤◌}
-use borrow.Author.Rules.{rules}
+use Prim.Native.Nat.{ℕ}
 use native.Mathlib.Omega.{arith}
-use Rattle.ranges.proofs.LeastLaws.{rest_slots, slots_start, slots_hit, slots_miss, slots_end}
+use Rattle.ranges.proofs.LeastLaws.{slots_start, slots_hit, slots_miss, slots_end}
 use Rattle.table.specs.Values.{callback_at}
 use Rattle.sheet.specs.Sheet.{too_many_at}
 use Rattle.windows.proofs.PartLaws.{head_spaced}

@@ -1,6 +1,5 @@
 -- `is_crowded` meets its contract: the two tests in turn.
 use borrow.Author.Tests.{eq-eqb, ne_eqb}
-use borrow.Author.Rules.{rules}
 use Rattle.sheet.specs.Parts.{crowded_by}
 use Rattle.sheet.proofs.is_crowded.Goals as goal
 

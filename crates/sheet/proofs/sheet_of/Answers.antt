@@ -4,7 +4,6 @@ use Prim.Native.Nat.{ℕ}
 use Rattle.table.specs.Values.{accepted}
 use Rattle.sheet.specs.Sheet.{too_many_at}
 use Rattle.sheet.proofs.RefusalLaws.{fault_none, fault_crowded, fault_passed}
-use borrow.Author.Rules.{rules}
 use Rattle.sheet.proofs.sheet_of.Goals as goal
 
 pub returns-then-window-eq0 : goal.returns-then-window-eq0

@@ -1,13 +1,8 @@
 -- `write_bounds` meets its contract. The loop: the row is the one lent, with the bounds of the slots passed in its first places.
-use mathlib.Core.Path.{◌≡◌, ap, ap₂, ◌∙◌}
-use mathlib.Core.List.{List}
-use Prim.Native.Nat.{ℕ, ◌-◌, ◌≤◌}
-use borrow.Author.Rules.{rules}
-use native.Mathlib.Omega.{arith}
-use lib.ListN.{length, set}
+use mathlib.Core.Path.{◌≡◌}
+use Prim.Native.Nat.{◌-◌, ◌≤◌}
 use Rattle.lent.specs.Over.{over}
 use Rattle.sheet.specs.Sheet.{bounds_to}
-use Rattle.sheet.proofs.RowLaws.{row_start, row_more, row_length}
 use Rattle.sheet.proofs.write_bounds.Given as goal
 
 abbrev pub invariant-loop-i : goal.invariant-loop-i

@@ -1,5 +1,4 @@
 -- `arrivals` meets its contract: the arrivals curve at the numbers of the head.
-use borrow.Author.Rules.{rules}
 use Rattle.windows.proofs.arrivals.Goals as goal
 
 pub returns : goal.returns

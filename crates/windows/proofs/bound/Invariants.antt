@@ -1,19 +1,10 @@
 -- `bound` meets its contract. Outer loop: the largest F(A) - A of the offsets passed, and the instances that the last of them charged; the length is not past F of the next offset, since F does not fall.
 -- Inner loop: the length is not past F(A), and neither is the jump's end. What the jump does not go past is F(A), so that it ends there.
-use mathlib.Core.Path.{◌≡◌, refl, sym, ap, ap₂, ◌∙◌}
-use mathlib.Core.Logic.{⊎_elim}
-use Prim.Native.Nat.{ℕ, ◌+◌, ◌-◌, ◌≤◌, ◌<◌, max}
-use borrow.Author.Rules.{rules}
-use native.Mathlib.Omega.{arith}
-use lib.ListN.{get_or}
+use mathlib.Core.Path.{◌≡◌}
+use Prim.Native.Nat.{◌-◌, ◌≤◌, ◌<◌}
 use Rattle.ranges.specs.Least.{largest}
-use Rattle.ranges.proofs.LeastLaws.{largest_more}
-use Rattle.numbers.specs.Numbers.{places, longest}
-use Rattle.windows.proofs.TableLaws.{costed}
-use Rattle.windows.proofs.PartLaws.{head_within, head_spaced, arrivals_of_lem, work_of_lem}
-use Rattle.windows.proofs.SearchLaws.{finish_in_lem, finish_hit, finish_jump, finish_next, bound_start, bound_skip, bound_is, bound_in_lem}
-use Rattle.windows.specs.Bounds.{arrivals_of, cost_of, window_in}
-use Rattle.windows.specs.Parts.{most_demand, demand_in, but, finish_in, reach_of}
+use Rattle.windows.specs.Bounds.{arrivals_of, window_in}
+use Rattle.windows.specs.Parts.{most_demand, demand_in, but, finish_in}
 use Rattle.windows.proofs.bound.Given as goal
 
 abbrev pub invariant-loop-length : goal.invariant-loop-length

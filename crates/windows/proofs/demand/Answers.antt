@@ -1,11 +1,8 @@
 use mathlib.Core.Path.{◌≡◌, sym, ap, ◌∙◌}
-use mathlib.Core.Logic.{⊎_elim}
-use Prim.Native.Nat.{ℕ, ◌+◌, ◌*◌, ◌-◌, ◌≤◌, ◌<◌}
+use Prim.Native.Nat.{ℕ, ◌+◌, ◌*◌, ◌≤◌, ◌<◌}
 use lib.ListN.{get_or}
 use Rattle.ranges.specs.Sum.{sum as total}
 use Rattle.numbers.specs.Numbers.{places}
-use borrow.Author.Rules.{rules}
-use Rattle.ranges.proofs.EveryLaws.{flipped}
 use native.Mathlib.Omega.{arith}
 use Rattle.windows.proofs.TableLaws.{costed}
 use Rattle.windows.proofs.PartLaws.{head_within, head_spaced, work_of_lem, in_skip, in_add}

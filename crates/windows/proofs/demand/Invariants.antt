@@ -1,15 +1,7 @@
 -- `demand` meets its contract. The loop: the sum so far is that of the slots passed, those below the level adding nothing.
-use mathlib.Core.Path.{◌≡◌, sym, ap, ◌∙◌}
-use mathlib.Core.Logic.{⊎_elim}
-use Prim.Native.Nat.{ℕ, ◌+◌, ◌*◌, ◌-◌, ◌≤◌, ◌<◌}
-use lib.ListN.{get_or}
+use mathlib.Core.Path.{◌≡◌}
+use Prim.Native.Nat.{◌+◌, ◌*◌, ◌-◌, ◌≤◌}
 use Rattle.ranges.specs.Sum.{sum as total}
-use Rattle.numbers.specs.Numbers.{places}
-use borrow.Author.Rules.{rules}
-use Rattle.ranges.proofs.EveryLaws.{flipped}
-use native.Mathlib.Omega.{arith}
-use Rattle.windows.proofs.TableLaws.{costed}
-use Rattle.windows.proofs.PartLaws.{head_within, head_spaced, work_of_lem, in_skip, in_add}
 use Rattle.windows.specs.Parts.{work_in, most_work}
 use Rattle.windows.proofs.demand.Given as goal
 

@@ -1,7 +1,6 @@
 -- `demand_but` meets its contract: `demand` of the level with slot x below it.
 use mathlib.Core.Path.{ap, ◌∙◌}
 use Prim.Native.Nat.{ℕ}
-use borrow.Author.Rules.{rules}
 use Rattle.windows.specs.declared.Level.{Level}
 use Rattle.windows.specs.Parts.{demand_in}
 use Rattle.windows.proofs.demand_but.Goals as goal

@@ -1,11 +1,7 @@
-use mathlib.Core.Path.{◌≡◌}
-use Prim.Native.Nat.{ℕ, ◌-◌, ◌≤◌, ◌<◌}
 use borrow.Author.Rules.{rules}
 use native.Mathlib.Omega.{arith}
-use lib.ListN.{length, get_or, length-set}
-use Rattle.numbers.specs.Numbers.{places}
+use lib.ListN.{length-set}
 use Rattle.windows.proofs.TableLaws.{heads_more}
-use Rattle.chains.specs.Chains.{head_of}
 use Rattle.windows.proofs.heads_of.Goals as goal
 
 pub loop-i-init : goal.loop-i-init

@@ -1,11 +1,8 @@
 -- `heads_of` meets its contract. The loop: the heads of the slots passed stand in their places.
 use mathlib.Core.Path.{◌≡◌}
 use Prim.Native.Nat.{ℕ, ◌-◌, ◌≤◌, ◌<◌}
-use borrow.Author.Rules.{rules}
-use native.Mathlib.Omega.{arith}
-use lib.ListN.{length, get_or, length-set}
+use lib.ListN.{length, get_or}
 use Rattle.numbers.specs.Numbers.{places}
-use Rattle.windows.proofs.TableLaws.{heads_more}
 use Rattle.chains.specs.Chains.{head_of}
 use Rattle.windows.proofs.heads_of.Given as goal
 

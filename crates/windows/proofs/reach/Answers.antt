@@ -1,5 +1,4 @@
 -- `reach` meets its contract: the inverse of the supply at the numbers of the table.
-use borrow.Author.Rules.{rules}
 use Rattle.windows.specs.Parts.{reach_of}
 use Rattle.windows.proofs.reach.Goals as goal
 

@@ -1,11 +1,6 @@
-use mathlib.Core.Path.{◌≡◌, sym, ◌∙◌}
-use Prim.Native.Nat.{◌+◌, ◌-◌, ◌≤◌}
-use borrow.Author.Rules.{rules}
+use mathlib.Core.Path.{sym, ◌∙◌}
 use native.Mathlib.Omega.{arith}
-use Rattle.ranges.proofs.LeastLaws.{rest}
 use Rattle.windows.proofs.SearchLaws.{window_start, window_hit, window_jump, window_end}
-use Rattle.windows.specs.Bounds.{window_in}
-use Rattle.windows.specs.Parts.{covered_in}
 use Rattle.windows.proofs.window.Goals as goal
 
 pub loop-length-init : goal.loop-length-init

@@ -1,10 +1,7 @@
 -- `window` meets its contract. The loop: what is left of the search at this length is the whole of it.
-use mathlib.Core.Path.{◌≡◌, sym, ◌∙◌}
+use mathlib.Core.Path.{◌≡◌}
 use Prim.Native.Nat.{◌+◌, ◌-◌, ◌≤◌}
-use borrow.Author.Rules.{rules}
-use native.Mathlib.Omega.{arith}
 use Rattle.ranges.proofs.LeastLaws.{rest}
-use Rattle.windows.proofs.SearchLaws.{window_start, window_hit, window_jump, window_end}
 use Rattle.windows.specs.Bounds.{window_in}
 use Rattle.windows.specs.Parts.{covered_in}
 use Rattle.windows.proofs.window.Given as goal

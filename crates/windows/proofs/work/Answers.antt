@@ -3,7 +3,6 @@ use mathlib.Core.Path.{ap, ◌∙◌}
 use native.Mathlib.Omega.{arith}
 use Rattle.curves.specs.Cost.{cost}
 use Rattle.table.specs.Values.{entries_of}
-use borrow.Author.Rules.{rules}
 use Rattle.windows.specs.Parts.{work_of}
 use Rattle.windows.proofs.work.Goals as goal
 

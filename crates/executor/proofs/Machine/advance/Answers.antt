@@ -1,6 +1,5 @@
 -- The effect tells whom it activates; the queues are those before it.
 use mathlib.Core.Path.{◌≡◌, ◌∙◌}
-use borrow.Author.Rules.{rules}
 use Rattle.executor.specs.Tick.{full}
 use Rattle.executor.proofs.TickLaws.{finished_few, full_is, admitted-full, admitted_free}
 use Rattle.executor.proofs.Machine.advance.Goals as goal

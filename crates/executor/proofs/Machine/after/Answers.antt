@@ -1,6 +1,5 @@
 -- The counts of whoever finishes, and what step 4 leaves.
 use mathlib.Core.Path.{sym, ◌∙◌}
-use borrow.Author.Rules.{rules}
 use Rattle.executor.proofs.EffectLaws.{after_law}
 use Rattle.executor.proofs.Machine.after.Goals as goal
 

@@ -2,13 +2,11 @@
 use mathlib.Core.Path.{ap, ◌∙◌}
 use mathlib.Core.List.{List}
 use Prim.Native.Nat.{ℕ}
-use borrow.Author.Rules.{rules}
 use Rattle.masks.specs.Parts.{except}
 use Rattle.queues.specs.Queues.{arrived}
 use Rattle.folding.proofs.FoldingLaws.{kept_mask}
 use Rattle.executor.specs.declared.Machine.{Machine}
 use Rattle.executor.specs.State.{with_counts}
-use Rattle.executor.specs.Effect.{arrive}
 use Rattle.executor.proofs.Machine.arrive.Goals as goal
 
 pub returns : goal.returns

@@ -2,7 +2,6 @@
 use mathlib.Core.Path.{sym, subst, ◌∙◌}
 use Prim.Native.Nat.{ℕ, ◌-◌, ◌≤◌}
 use native.Mathlib.Omega.{arith}
-use borrow.Author.Rules.{rules}
 use Rattle.numbers.specs.Numbers.{places}
 use Rattle.table.proofs.MaskLaws.{next_some}
 use Rattle.executor.specs.Parts.{Completes}

@@ -1,6 +1,5 @@
 -- Those folded, the arrivals, and then what the supply allows.
 use mathlib.Core.Path.{◌∙◌, sym, subst}
-use borrow.Author.Rules.{rules}
 use Rattle.numbers.specs.Numbers.{most_waiting}
 use Rattle.executor.specs.declared.Machine.{Machine}
 use Rattle.executor.specs.Parts.{Admissible}

@@ -1,5 +1,4 @@
 -- Of an empty mask nothing is folded.
-use borrow.Author.Rules.{rules}
 use Rattle.folding.proofs.FoldingLaws.{folded_none}
 use Rattle.executor.proofs.Machine.folded.Goals as goal
 

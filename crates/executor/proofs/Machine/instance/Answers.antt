@@ -1,7 +1,6 @@
 -- An index from 1 is that of a slot.
 use Prim.Native.Nat.{◌-◌}
 use native.Mathlib.Omega.{arith}
-use borrow.Author.Rules.{rules}
 use Rattle.executor.proofs.EffectLaws.{instance_none, instance_some}
 use Rattle.executor.proofs.Machine.instance.Goals as goal
 

@@ -6,7 +6,6 @@ use Rattle.executor.specs.declared.Machine.{Machine}
 use Rattle.executor.specs.declared.Started.{Started}
 use Rattle.executor.specs.State.{fresh}
 use Rattle.executor.specs.Start.{start_of}
-use borrow.Author.Rules.{rules}
 use Rattle.executor.proofs.Machine.start.Goals as goal
 
 abbrev started : Refusal → Machine → Started

@@ -1,6 +1,5 @@
 -- What runs, then the slots.
 use mathlib.Core.Path.{◌∙◌}
-use borrow.Author.Rules.{rules}
 use Rattle.executor.proofs.FaultLaws.{state_run, state_slots}
 use Rattle.executor.proofs.Machine.state_fault.Goals as goal
 

@@ -2,7 +2,6 @@
 use mathlib.Core.Path.{sym, ◌∙◌}
 use Rattle.executor.proofs.FaultLaws.{faulty-table}
 use Rattle.executor.proofs.TickLaws.{tick_faulty}
-use borrow.Author.Rules.{rules}
 use Rattle.executor.proofs.Machine.tick.Goals as goal
 
 pub returns-then-table_fault : goal.returns-then-table_fault

@@ -1,6 +1,5 @@
 -- The clock alone moves.
 use mathlib.Core.Path.{refl}
-use borrow.Author.Rules.{rules}
 use Rattle.executor.specs.Effect.{unsupplied}
 use Rattle.executor.proofs.Machine.unsupplied.Goals as goal
 

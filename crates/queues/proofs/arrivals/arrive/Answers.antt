@@ -3,7 +3,7 @@ use Prim.Native.Nat.{ℕ}
 use native.Mathlib.Omega.{arith}
 use borrow.Author.Rules.{rules}
 use Rattle.queues.specs.Queues.{arrived}
-use Rattle.queues.proofs.ArrivedLaws.{Counting, counting_one, arrived-none}
+use Rattle.queues.proofs.ArrivedLaws.{counting_one, arrived-none}
 use Rattle.masks.proofs.Search.{lowest_set, without_less}
 use Rattle.queues.proofs.arrivals.arrive.Goals as goal
 

@@ -1,11 +1,5 @@
 -- The slots still in `rest`, counted from what stands, give what the whole mask gives from the counts at entry. What is left of the mask falls.
-use mathlib.Core.Path.{refl, sym, ap, ◌∙◌}
-use Prim.Native.Nat.{ℕ}
-use native.Mathlib.Omega.{arith}
-use borrow.Author.Rules.{rules}
-use Rattle.queues.specs.Queues.{arrived}
-use Rattle.queues.proofs.ArrivedLaws.{Counting, counting_one, arrived-none}
-use Rattle.masks.proofs.Search.{lowest_set, without_less}
+use Rattle.queues.proofs.ArrivedLaws.{Counting}
 use Rattle.queues.proofs.arrivals.arrive.Given as goal
 
 abbrev pub invariant-loop-rest : goal.invariant-loop-rest

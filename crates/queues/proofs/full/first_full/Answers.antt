@@ -1,8 +1,6 @@
-use mathlib.Core.Path.{◌≡◌, refl, ◌∙◌}
-use Prim.Native.Nat.{◌<◌}
+use mathlib.Core.Path.{refl, ◌∙◌}
 use native.Mathlib.Omega.{arith}
 use borrow.Author.Rules.{rules}
-use Rattle.queues.specs.Parts.{full_in}
 use Rattle.queues.proofs.QueueLaws.{full-hit, full_miss, full_end}
 use Rattle.masks.proofs.Search.{lowest_set, without_less}
 use Rattle.queues.proofs.full.first_full.Goals as goal

@@ -1,7 +1,6 @@
 -- The callback that is activated, if there is one, is one slot more of the mask.
 use mathlib.Core.Path.{◌∙◌}
 use Rattle.queues.proofs.QueueLaws.{full_alone, full_past, full-one}
-use borrow.Author.Rules.{rules}
 use Rattle.queues.proofs.full.full_with.Goals as goal
 
 pub returns-then-next-eq0 : goal.returns-then-next-eq0

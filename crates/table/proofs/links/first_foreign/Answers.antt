@@ -1,6 +1,5 @@
 -- The bits outside the heads, and the lowest of them.
 use Rattle.table.proofs.MaskLaws.{foreign_law}
-use borrow.Author.Rules.{rules}
 use Rattle.table.proofs.links.first_foreign.Goals as goal
 
 pub returns : goal.returns

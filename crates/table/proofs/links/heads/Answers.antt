@@ -4,7 +4,6 @@ use Prim.Native.Nat.{◌-◌, ◌^◌}
 use Rattle.masks.specs.Parts.{except}
 use Rattle.table.specs.declared.Names.{Names}
 use Rattle.table.proofs.NamedLaws.{heads_law}
-use borrow.Author.Rules.{rules}
 use Rattle.table.proofs.links.heads.Goals as goal
 
 pub returns : goal.returns

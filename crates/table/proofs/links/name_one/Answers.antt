@@ -2,7 +2,6 @@
 use mathlib.Core.Path.{◌≡◌, sym, ap, ◌∙◌}
 use Prim.Native.Nat.{suc, ◌-◌}
 use native.Mathlib.Omega.{arith}
-use borrow.Author.Rules.{rules}
 use Rattle.table.specs.Parts.{name_one}
 use Rattle.table.proofs.NamedLaws.{name_out, name-again, name-first}
 use Rattle.table.proofs.links.name_one.Goals as goal

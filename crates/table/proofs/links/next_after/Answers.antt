@@ -1,6 +1,5 @@
 -- An index from 1 is that of a slot.
 use Rattle.table.proofs.MaskLaws.{next_none, next_some}
-use borrow.Author.Rules.{rules}
 use Rattle.table.proofs.links.next_after.Goals as goal
 
 pub returns-then-index-eq0 : goal.returns-then-index-eq0

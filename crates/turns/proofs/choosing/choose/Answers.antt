@@ -1,7 +1,6 @@
 -- The three searches of step 3 in turn.
 use mathlib.Core.Path.{sym, ◌∙◌}
 use Rattle.turns.proofs.ChooseLaws.{first_unpolled, first_cached, at_poll}
-use borrow.Author.Rules.{rules}
 use Rattle.turns.proofs.choosing.choose.Goals as goal
 
 pub returns-then-first-ne0 : goal.returns-then-first-ne0

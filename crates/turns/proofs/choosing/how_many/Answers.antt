@@ -1,6 +1,5 @@
 -- A mask of sixteen bits has sixteen slots at most.
 use native.Mathlib.Omega.{arith}
-use borrow.Author.Rules.{rules}
 use Rattle.masks.proofs.Counting.{count_le}
 use Rattle.turns.proofs.choosing.how_many.Goals as goal
 

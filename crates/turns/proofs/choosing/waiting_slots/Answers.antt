@@ -1,14 +1,13 @@
 use mathlib.Core.Path.{refl, ap, ap₂, ◌∙◌, sym}
 use mathlib.Core.List.{List}
-use Prim.Native.Nat.{ℕ, ◌-◌, ◌≤◌}
+use Prim.Native.Nat.{ℕ}
 use Rattle.turns.specs.declared.Waits.{Waits}
 use native.Mathlib.Nat.{le_antisymm}
 use native.Mathlib.Omega.{arith}
-use borrow.Author.Rules.{rules}
 use Rattle.masks.specs.Mask.{gather}
 use Rattle.turns.specs.Parts.{waits_of}
 use Rattle.table.specs.declared.Table.{Table}
-use Rattle.turns.proofs.ChooseLaws.{Sorted, one-polled, one_unpolled, one-idle}
+use Rattle.turns.proofs.ChooseLaws.{one-polled, one_unpolled, one-idle}
 use Rattle.turns.proofs.choosing.waiting_slots.Goals as goal
 use Rattle.turns.proofs.choosing.waiting_slots.Goals.{then-waiting-i-gt0+then-polled, then-waiting-i-gt0+else-polled, else-waiting-i-gt0}
 

@@ -1,5 +1,4 @@
 -- Nobody's turn, the last unit, or another one.
-use borrow.Author.Rules.{rules}
 use Rattle.turns.proofs.TurnLaws.{step_nobody, step_last, step_more}
 use Rattle.turns.proofs.steps.step.Goals as goal
 

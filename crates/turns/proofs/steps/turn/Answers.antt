@@ -1,5 +1,4 @@
 -- What runs has the turn; where nothing does, whoever step 3 chooses.
-use borrow.Author.Rules.{rules}
 use Rattle.turns.proofs.TurnLaws.{turn_running, turn_free}
 use Rattle.turns.proofs.steps.turn.Goals as goal
 

@@ -1,12 +1,8 @@
 -- After i steps the first i entries are those that the numbers hold.
-use mathlib.Core.Path.{◌≡◌, refl, sym, ap, ◌∙◌}
-use Prim.Native.Nat.{ℕ, ◌≤◌, ◌-◌, ◌+◌, ◌*◌}
-use lib.ListN.{length, take, set, get_or, length-set}
-use lib.Seq.{take_all}
-use native.Mathlib.Omega.{arith}
-use borrow.Author.Rules.{rules}
+use mathlib.Core.Path.{◌≡◌}
+use Prim.Native.Nat.{◌≤◌, ◌-◌}
+use lib.ListN.{length, take}
 use Rattle.lent.specs.Bytes.{numbers}
-use Rattle.lent.proofs.Fields.{numbers-step}
 use Rattle.writer.proofs.described.entries_of.Given as goal
 
 abbrev pub invariant-loop-i : goal.invariant-loop-i

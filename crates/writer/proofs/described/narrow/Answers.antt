@@ -1,5 +1,4 @@
 -- A number above 255, and one that a byte holds.
-use borrow.Author.Rules.{rules}
 use borrow.Author.Tests.{lt-ltb, le-ltb}
 use Rattle.writer.specs.Parts.{narrow}
 use Rattle.writer.proofs.described.narrow.Goals as goal

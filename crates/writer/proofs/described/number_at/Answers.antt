@@ -1,7 +1,6 @@
 -- Past the last number there is none.
 use mathlib.Core.Path.{sym}
 use lib.ListN.{get_or-eq_default}
-use borrow.Author.Rules.{rules}
 use Rattle.writer.proofs.described.number_at.Goals as goal
 
 pub returns : goal.returns

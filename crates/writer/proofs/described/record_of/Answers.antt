@@ -1,5 +1,4 @@
 -- Six numbers, three of them for a byte, and the entries are the record.
-use borrow.Author.Rules.{rules}
 use Rattle.writer.proofs.DescribedLaws.{record_made}
 use Rattle.writer.proofs.described.record_of.Goals as goal
 

@@ -1,14 +1,8 @@
 -- After i steps the first i places are filled.
-use mathlib.Core.Path.{◌≡◌, ap, ◌∙◌}
-use mathlib.Core.List.{[], ◌∷◌}
-use Prim.Native.Nat.{ℕ, ◌≤◌, ◌-◌}
-use native.Mathlib.Nat.{le_antisymm}
-use native.Mathlib.Omega.{arith}
-use borrow.Author.Rules.{rules}
+use mathlib.Core.Path.{◌≡◌}
+use Prim.Native.Nat.{◌≤◌, ◌-◌}
 use Rattle.table.specs.Values.{headless, placed}
 use Rattle.writer.specs.Parts.{narrow_slot}
-use Rattle.table.proofs.PlacedLaws.{headless_more}
-use Rattle.writer.proofs.DescribedLaws.{table_made}
 use Rattle.writer.proofs.described.table_of.Given as goal
 
 abbrev pub invariant-loop-i : goal.invariant-loop-i
