@@ -1,5 +1,5 @@
 //! Links libcuorfelt.a from the folder that CUORFELT_LIB names, or from the
-//! one that `rt staticlib cuorfelt` writes to.
+//! one that `sh archives` writes to.
 
 use std::path::PathBuf;
 

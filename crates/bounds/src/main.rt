@@ -1,6 +1,7 @@
 // Prints the sheet of the table on standard input: `window W`, then index and bound of each callback; or `refused`, number, index.
 
 #![tactic(auto)]
-fn main() {
-    report::cuorfelt_bounds();
+
+fn main(rt: HostRuntime) {
+    report::cuorfelt_bounds(rt.stdin());
 }

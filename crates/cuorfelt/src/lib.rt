@@ -1,5 +1,5 @@
 // The edge for hosts written in C: reader, writer, normaliser, analyser and machine on numbers and lent slices, the machine's state packed in lent bytes.
-// include/cuorfelt.h declares what is exported here.
+// The crate `cuorfelt_c` exports them for C.
 
 #![tactic(auto)]
 

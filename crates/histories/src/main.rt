@@ -7,8 +7,12 @@
 
 use answers::{Answer, Outcome};
 use executor::{Machine, Ticked};
-use libc::{STDIN_FILENO, STDOUT_FILENO};
 use table::Refusal;
+
+// The descriptors that are read from and written to.
+const STDIN_FILENO: i32 = 0;
+
+const STDOUT_FILENO: i32 = 1;
 
 // The most histories in a run.
 const MOST_HISTORIES: u32 = 1000000;

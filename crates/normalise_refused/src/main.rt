@@ -1,6 +1,7 @@
 // The program `normalise` on a table that is refused for a loop, number 13, index 2; its entries 3 and 9, which the reader refuses first, are no fault here.
 
 #![tactic(auto)]
-fn main() {
-    report::rewrite::cuorfelt_normalise_program();
+
+fn main(rt: HostRuntime) {
+    report::rewrite::cuorfelt_normalise_program(rt.stdin());
 }

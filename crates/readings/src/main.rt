@@ -3,7 +3,10 @@
 
 #![tactic(auto)]
 
-use libc::{STDIN_FILENO, STDOUT_FILENO};
+// The descriptors that are read from and written to.
+const STDIN_FILENO: i32 = 0;
+
+const STDOUT_FILENO: i32 = 1;
 
 // The longest frame, and the most of them in a run.
 const LONGEST_FRAME: usize = 1024;

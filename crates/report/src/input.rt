@@ -2,7 +2,7 @@
 
 ghost use Rattle.std.specs.Prelude.{◌≤◌, length};
 
-use libc::STDIN_FILENO;
+use std::io::{Read, Stdin};
 
 // How many bytes were read, and whether a read failed behind them.
 #[derive(Clone, Copy)]
@@ -12,21 +12,27 @@ pub struct Input {
 }
 
 // Reads until the buffer is full, the input ends or a read fails.
-pub fn read_all(buf: &mut [u8]) -> Input
+pub fn read_all(input: Stdin, buf: &mut [u8]) -> Input
     ensures { result.count ≤ length buf.old }
 {
+    let mut from = input;
     let mut done = 0;
     while done < buf.len() {
-        let rest = &mut buf[done..];
-        let got = libc::read(STDIN_FILENO, rest);
-        let more = io::count(got, rest);
-        if more == 0 {
-            return Input {
-                count: done,
-                failed: got < 0,
-            };
+        match from.read(&mut buf[done..]) {
+            Ok(0) => {
+                return Input {
+                    count: done,
+                    failed: false,
+                };
+            }
+            Ok(more) => done += more,
+            Err(_) => {
+                return Input {
+                    count: done,
+                    failed: true,
+                };
+            }
         }
-        done += more;
     }
     Input {
         count: done,

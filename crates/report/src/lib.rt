@@ -12,9 +12,14 @@ ghost use Rattle.numbers.specs.Numbers.{places};
 ghost use Rattle.sheet.specs.Sheet.{sheet_of};
 ghost use Rattle.report.specs.Status.{status_by, status_of, failed, Ends};
 
-use libc::{STDERR_FILENO, STDOUT_FILENO};
 use sheet::Sheet;
+use std::io::Stdin;
 use table::Refusal;
+
+// The descriptors that are written to.
+const STDOUT_FILENO: i32 = 1;
+
+const STDERR_FILENO: i32 = 2;
 
 // How a program ends: all that was asked for was written; a refusal; or input could not be read or output not be written.
 pub const WHOLE: u8 = 0;
@@ -127,12 +132,13 @@ pub fn conclude(bytes: &[u8], unread: bool) -> u8
 
 // The program `bounds` as a function: reads standard input, prints and gives the status to end with.
 // No table has more than 528 bytes. An input that fills the buffer has more, and is refused by its first bytes and its length, as all of it would be.
+// Only with the handle of standard input can a read that failed be told from the input's end; it takes no bytes, so that a host in C passes nothing.
 #[unsafe(no_mangle)]
-pub extern "C" fn cuorfelt_bounds() -> u8
+pub extern "C" fn cuorfelt_bounds(input: Stdin) -> u8
     ensures { result ≤ failed }
 {
     let mut buffer = [0u8; 1024];
-    let read = input::read_all(&mut buffer);
+    let read = input::read_all(input, &mut buffer);
     let n = read.count;
     conclude(&buffer[..n], read.failed)
 }

@@ -6,8 +6,8 @@ ghost use Rattle.normaliser.specs.Normaliser.{normalise_fault, normalised};
 ghost use Rattle.report.specs.Status.{failed};
 ghost use Rattle.report.specs.Rewrite.{Rewrites};
 
-use crate::{FAILED, input, print_refusal, status_by};
-use libc::{STDERR_FILENO, STDOUT_FILENO};
+use crate::{FAILED, STDERR_FILENO, STDOUT_FILENO, input, print_refusal, status_by};
+use std::io::Stdin;
 use table::Refusal;
 
 // What the normaliser returned, and whether all was written that follows from it.
@@ -59,11 +59,11 @@ pub fn conclude(bytes: &mut [u8], unread: bool) -> u8
 // The program `normalise` as a function: reads standard input, writes and gives the status to end with.
 // An input that fills the buffer is longer than any table, as in `bounds`.
 #[unsafe(no_mangle)]
-pub extern "C" fn cuorfelt_normalise_program() -> u8
+pub extern "C" fn cuorfelt_normalise_program(input: Stdin) -> u8
     ensures { result ≤ failed }
 {
     let mut buffer = [0u8; 1024];
-    let read = input::read_all(&mut buffer);
+    let read = input::read_all(input, &mut buffer);
     let n = read.count;
     conclude(&mut buffer[..n], read.failed)
 }

@@ -7,7 +7,10 @@
 
 ghost use Rattle.std.specs.Prelude.{◌*◌, ◌≤◌, length};
 
-use libc::{STDIN_FILENO, STDOUT_FILENO};
+// The descriptors that are read from and written to.
+const STDIN_FILENO: i32 = 0;
+
+const STDOUT_FILENO: i32 = 1;
 
 // The longest frame and the longest buffer, and the most frames in a run.
 const LONGEST: usize = 1024;
