@@ -8,8 +8,7 @@ use Rattle.table.specs.declared.Refusal.{Refusal}
 use Rattle.normaliser.specs.Normaliser.{normalise_fault, normalised}
 use Rattle.report.specs.Status.{status_by, failed}
 use Rattle.report.specs.Rewrite.{Rewrites}
-use Rattle.report.proofs.rewrite.conclude.Statement.{statement}
-use Rattle.report.proofs.rewrite.conclude.Tie as tie
+use Rattle.report.proofs.rewrite.conclude.Goals as goal
 
 rewrites_unread : (b : List ℕ) (u : Bool) → u ≡ true → Rewrites b u b failed
 unfolding Rewrites
@@ -19,24 +18,10 @@ rewrites_read : (b after : List ℕ) (u : Bool) (r : ℕ) (w : Bool) (x : Refusa
 unfolding Rewrites
 rewrites_read b after u r w x read same fault status = subst (λ (v : Bool). Rewrites b v after r) (sym read) (w, same, status ∙ ap (status_by w) fault)
 
-returns : tie.Need-returns
-returns c = rewrites_unread _ _ (search rules)
+pub returns-then-unread : goal.returns-then-unread
+returns-then-unread c = rewrites_unread _ _ (search rules)
 
-returns-2 : tie.Need-returns-2
-returns-2 c =
-    let done = c.before.before.before.before.before.rewrite in
-    rewrites_read _ _ _ _ _ _ c.before.before.before.before.before.before.before.if1.false done.ensures.1 done.ensures.0 c.status-by.ensures
-
-pub conclude-spec : {M : Type 1} → statement M
-conclude-spec =
-    tie.close
-    (tie.spec
-    (λ c. search rules)
-    (λ c κs. search rules)
-    returns
-    (λ c κs. search rules)
-    (λ c. search rules)
-    (λ c κs. search rules)
-    (λ c κs. search rules)
-    (λ c. search rules)
-    returns-2)
+pub returns : goal.returns
+returns c =
+    let done = c.rewrite-done in
+    rewrites_read _ _ _ _ _ _ c.if-unread.false done.ensures.1 done.ensures.0 c.status_by.ensures

@@ -8,27 +8,15 @@ use lib.Seq.{length-take-le}
 use borrow.Author.Rules.{rules}
 use Rattle.report.specs.Status.{failed, Ends}
 use Rattle.report.proofs.StatusLaws.{printed_most}
-use Rattle.report.proofs.cuorfelt_bounds.Statement.{statement}
-use Rattle.report.proofs.cuorfelt_bounds.Tie as tie
+use Rattle.report.proofs.cuorfelt_bounds.Goals as goal
 
 ends_most : (b : List ℕ) (u : Bool) (r : ℕ) → Ends b u r → r ≤ failed
 unfolding Ends
 ends_most b true r e = omega (arith, e)
 ends_most b false r e = subst (λ (s : ℕ). s ≤ failed) (sym e.2) (printed_most e.0)
 
-slice-aggregate-conclude : tie.Need-slice-aggregate-conclude
-slice-aggregate-conclude c = sym (length-take-le _ _ (search rules))
+pub slice_bounds-conclude-end : goal.slice_bounds-conclude-end
+slice_bounds-conclude-end c = sym (length-take-le _ _ (search rules))
 
-returns : tie.Need-returns
+pub returns : goal.returns
 returns c = ends_most _ _ _ c.conclude.ensures
-
-pub cuorfelt-bounds-spec : {M : Type 1} → statement M
-cuorfelt-bounds-spec =
-    tie.close
-    (tie.spec
-    (λ c. search rules)
-    (λ c κs. search rules)
-    (λ c. search rules)
-    slice-aggregate-conclude
-    (λ c κs. search rules)
-    returns)

@@ -9,27 +9,15 @@ use borrow.Author.Rules.{rules}
 use Rattle.report.specs.Status.{failed}
 use Rattle.report.specs.Rewrite.{Rewrites}
 use Rattle.report.proofs.StatusLaws.{status_most}
-use Rattle.report.proofs.rewrite.cuorfelt_normalise_program.Statement.{statement}
-use Rattle.report.proofs.rewrite.cuorfelt_normalise_program.Tie as tie
+use Rattle.report.proofs.rewrite.cuorfelt_normalise_program.Goals as goal
 
 rewrites_most : (b after : List ℕ) (u : Bool) (r : ℕ) → Rewrites b u after r → r ≤ failed
 unfolding Rewrites
 rewrites_most b after true r e = omega (arith, e.1)
 rewrites_most b after false r e = subst (λ (s : ℕ). s ≤ failed) (sym e.2) (status_most e.0 _)
 
-slice-aggregate-conclude : tie.Need-slice-aggregate-conclude
-slice-aggregate-conclude c = sym (length-take-le _ _ (search rules))
+pub slice_bounds-conclude-end : goal.slice_bounds-conclude-end
+slice_bounds-conclude-end c = sym (length-take-le _ _ (search rules))
 
-returns : tie.Need-returns
-returns c = rewrites_most _ _ _ _ c.before.conclude.ensures
-
-pub cuorfelt-normalise-program-spec : {M : Type 1} → statement M
-cuorfelt-normalise-program-spec =
-    tie.close
-    (tie.spec
-    (λ c. search rules)
-    (λ c κs. search rules)
-    (λ c. search rules)
-    slice-aggregate-conclude
-    (λ c κs. search rules)
-    returns)
+pub returns : goal.returns
+returns c = rewrites_most _ _ _ _ c.conclude.ensures

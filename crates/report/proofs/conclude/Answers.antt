@@ -8,8 +8,7 @@ use Rattle.numbers.specs.Numbers.{places}
 use Rattle.sheet.specs.Sheet.{sheet_of}
 use Rattle.report.specs.declared.Printed.{Printed}
 use Rattle.report.specs.Status.{status_of, failed, Ends}
-use Rattle.report.proofs.conclude.Statement.{statement}
-use Rattle.report.proofs.conclude.Tie as tie
+use Rattle.report.proofs.conclude.Goals as goal
 
 ends_unread : (b : List ℕ) (u : Bool) → u ≡ true → Ends b u failed
 unfolding Ends
@@ -19,21 +18,8 @@ ends_read : (b : List ℕ) (u : Bool) (r : ℕ) (p : Printed) → u ≡ false �
 unfolding Ends
 ends_read b u r p read sheet status = subst (λ (v : Bool). Ends b v r) (sym read) (p, sheet, status)
 
-returns : tie.Need-returns
-returns c = ends_unread _ _ (search rules)
+pub returns-then-unread : goal.returns-then-unread
+returns-then-unread c = ends_unread _ _ (search rules)
 
-returns-2 : tie.Need-returns-2
-returns-2 c = ends_read _ _ _ _ (search rules) (search rules) c.status.ensures
-
-pub conclude-spec : {M : Type 1} → statement M
-conclude-spec =
-    tie.close
-    (tie.spec
-    (λ c. search rules)
-    (λ c κs. search rules)
-    returns
-    (λ c κs. search rules)
-    (λ c. search rules)
-    (λ c κs. search rules)
-    (λ c κs. search rules)
-    returns-2)
+pub returns : goal.returns
+returns c = ends_read _ _ _ _ (search rules) (search rules) c.status.ensures
