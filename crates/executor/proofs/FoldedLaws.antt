@@ -16,7 +16,7 @@ use Rattle.ranges.specs.Every.{within}
 use Rattle.ranges.proofs.SumLaws.{hit-le, hit_other}
 use Rattle.ranges.proofs.LeastLaws.{lowest-hit}
 use Rattle.ranges.proofs.EveryLaws.{and_holds, within_passed}
-use Rattle.numbers.specs.Numbers.{places, most_ticks, most_waiting, longest, timer, not_aHead, queue_full}
+use Rattle.numbers.specs.Numbers.{places, most_ticks, most_waiting, longest, timer, not_a_head, queue_full}
 use Rattle.table.specs.declared.Refusal.{Refusal}
 use Rattle.table.specs.declared.Table.{Table}
 use Rattle.table.specs.Values.{kind_of, refuse, accepted, lowest_refused}
@@ -98,7 +98,7 @@ module _ (m : Machine) (ok : Valid m) (mask : ℕ) (supplied : Bool) (cost i : �
   number r h e = h (ap (λ (x : Refusal). x.number) e)
 
   last : (1 ≤ cost) × (cost ≤ longest) → (x y : ℕ) → foreign m.table mask ≡ x → full m mask supplied cost ≡ y
-      → Other (lowest_refused not_aHead x (lowest_refused queue_full y accepted))
+      → Other (lowest_refused not_a_head x (lowest_refused queue_full y accepted))
   last c zero zero p q = number _ (λ z. omega arith)
   last c zero (suc y) p q = (λ e. full_other m ok mask cost c p supplied i timed (q ∙ ap (λ (x : Refusal). x.index) e))
   last c (suc x) y p q = number _ (λ z. omega arith)

@@ -9,7 +9,7 @@ use Prim.Native.Nat.{ℕ, zero, suc, ◌≤◌, ◌<◌}
 use native.Mathlib.Omega.{arith}
 use lib.Dec.{eqb, leb}
 use borrow.Author.Tests.{eqb-true, eqb-false, leb-false}
-use Rattle.numbers.specs.Numbers.{most_ticks, longest, not_aHead, queue_full}
+use Rattle.numbers.specs.Numbers.{most_ticks, longest, not_a_head, queue_full}
 use Rattle.ranges.specs.Every.{within}
 use Rattle.ranges.proofs.EveryLaws.{within_passed}
 use Rattle.table.specs.Values.{accepted, lowest_refused}
@@ -43,7 +43,7 @@ module _ (m : Machine) (mask : ℕ) (supplied : Bool) (cost : ℕ) where
       go false true z ex ey ez = absurd (omega (arith, rw (ex, ey, tick_fault) at e))
       go false false false ex ey ez = absurd (omega (arith, rw (ex, ey, ez, tick_fault) at e))
       go false false true ex ey ez =
-          let last = lowest_zero not_aHead (foreign m.table mask) (lowest_refused queue_full (full m mask supplied cost) accepted) (λ z. omega arith) (rw (ex, ey, ez, tick_fault) at e) in
+          let last = lowest_zero not_a_head (foreign m.table mask) (lowest_refused queue_full (full m mask supplied cost) accepted) (λ z. omega arith) (rw (ex, ey, ez, tick_fault) at e) in
           record { right = ex; early = leb-false most_ticks m.clock ey; priced = within_passed 1 longest cost ez; heads = last.0 }
 
   pub tick_cases : (P : Ticked → Type 0) → (Passed m mask cost → P (effect m mask supplied cost))
@@ -76,7 +76,7 @@ module _ (m : Machine) (mask : ℕ) (supplied : Bool) (cost : ℕ) where
 
   -- ---- the numbers of the refusals
 
-  last : (x y : ℕ) → (lowest_refused not_aHead x (lowest_refused queue_full y accepted)).number ≤ queue_full
+  last : (x y : ℕ) → (lowest_refused not_a_head x (lowest_refused queue_full y accepted)).number ≤ queue_full
   last zero zero = omega arith
   last zero (suc y) = omega arith
   last (suc x) y = omega arith

@@ -121,15 +121,15 @@ module _ (m : Machine) (mask : ℕ) (supplied : Bool) (cost : ℕ) where
         abbrev after20 : Refusal
         after20 = lowest_refused Numbers.queue_full (full m mask supplied cost) accepted
 
-        last : tick_fault m mask supplied cost ≡ lowest_refused Numbers.not_aHead (foreign m.table mask) after20
+        last : tick_fault m mask supplied cost ≡ lowest_refused Numbers.not_a_head (foreign m.table mask) after20
         unfolding tick_fault
         last = rw (right, tick_fault, lt-leb Numbers.most_ticks m.clock early, priced)
 
         module _ (x : ℕ) (e : x ≡ foreign m.table mask) where
-          pub tick_foreign : x ≢ 0 → refused m (refuse Numbers.not_aHead x) ≡ tick_of m mask supplied cost
+          pub tick_foreign : x ≢ 0 → refused m (refuse Numbers.not_a_head x) ≡ tick_of m mask supplied cost
           tick_foreign h =
-              refuses (refuse Numbers.not_aHead x)
-              (last ∙ ap (λ (y : ℕ). lowest_refused Numbers.not_aHead y after20) (sym e) ∙ lowest-refused Numbers.not_aHead x after20 h)
+              refuses (refuse Numbers.not_a_head x)
+              (last ∙ ap (λ (y : ℕ). lowest_refused Numbers.not_a_head y after20) (sym e) ∙ lowest-refused Numbers.not_a_head x after20 h)
               (λ z. omega arith)
 
           pub tick_admitted : x ≡ 0 → admitted m mask supplied cost ≡ tick_of m mask supplied cost
@@ -137,7 +137,7 @@ module _ (m : Machine) (mask : ℕ) (supplied : Bool) (cost : ℕ) where
           tick_admitted z = go (full m mask supplied cost) refl
             where
               then : tick_fault m mask supplied cost ≡ lowest_refused Numbers.queue_full (full m mask supplied cost) accepted
-              then = last ∙ lowest_passed Numbers.not_aHead (foreign m.table mask) after20 (sym e ∙ z)
+              then = last ∙ lowest_passed Numbers.not_a_head (foreign m.table mask) after20 (sym e ∙ z)
 
               go : (y : ℕ) → full m mask supplied cost ≡ y
                   → elim y [ zero ↦ effect m mask supplied cost | suc i ↦ refused m (refuse Numbers.queue_full (suc i)) ] ≡ tick_of m mask supplied cost

@@ -32,7 +32,7 @@ tick_fault m mask supplied cost =
         | true ↦ refuse Numbers.ticks_spent 0
         | false ↦ elim (within 1 Numbers.longest cost) [
           | false ↦ refuse Numbers.wrong_cost 0
-          | true ↦ lowest_refused Numbers.not_aHead (foreign m.table mask) (lowest_refused Numbers.queue_full (full m mask supplied cost) accepted)
+          | true ↦ lowest_refused Numbers.not_a_head (foreign m.table mask) (lowest_refused Numbers.queue_full (full m mask supplied cost) accepted)
         ]
       ]
     ]

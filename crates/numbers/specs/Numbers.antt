@@ -121,8 +121,8 @@ ticks_spent = 18
 abbrev pub wrong_cost : ℕ
 wrong_cost = 19
 
-abbrev pub not_aHead : ℕ
-not_aHead = 20
+abbrev pub not_a_head : ℕ
+not_a_head = 20
 
 abbrev pub queue_full : ℕ
 queue_full = 21
