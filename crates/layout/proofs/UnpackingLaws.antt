@@ -1,9 +1,10 @@
 -- What unpacking gives, test by test. Assumes nothing.
 -- not_laid_lem, is_laid: by the layout. laid_no, laid_yes, laid_machine: what an unpacked state says. not_zero, part_number, part_table: the tests.
 use mathlib.Core.Path.{◌≡◌, refl, sym, ap, ◌∙◌}
-use mathlib.Core.Bool.{Bool, true, false}
+use mathlib.Core.Bool.{Bool, true, false, not}
 use mathlib.Core.List.{List}
 use Prim.Native.Nat.{ℕ}
+use borrow.Author.Tests.{not-true}
 use Rattle.ranges.proofs.EveryLaws.{never_both}
 use Rattle.table.specs.declared.Refusal.{Refusal}
 use Rattle.reader.specs.declared.Reading.{Reading}
@@ -44,8 +45,8 @@ pub laid_machine : (b : List ℕ) {u : Unpacked} → u ≡ unpacking b → u.lai
 laid_machine b e f = ap (λ (u : Unpacked). u.machine) (e ∙ is_laid b (laid_yes b e f))
 
 -- a test for zeros that fails
-pub not_zero : (x y : Bool) → x ≡ y → x ≡ false → y ≡ true → ⊥
-not_zero x y e f g = never_both x (e ∙ g) f
+pub not_zero : (x y : Bool) → x ≡ y → not x ≡ true → y ≡ true → ⊥
+not_zero x y e f g = never_both x (e ∙ g) (not-true x f)
 
 -- a table read from its own part
 pub part_number : (b : List ℕ) {x : List ℕ} {r : Reading} → r ≡ read_of x → x ≡ table_part b → r.refusal.number ≡ (read_fault (table_part b)).number

@@ -4,7 +4,7 @@ use Prim.Native.Nat.{ℕ, ◌-◌}
 use native.Mathlib.Nat.{sub-zero}
 use lib.ListN.{take}
 use native.Mathlib.Omega.{arith}
-use mathlib.Core.Bool.{true}
+use mathlib.Core.Bool.{true, not}
 use Rattle.table.specs.declared.Table.{Table}
 use Rattle.executor.specs.declared.Machine.{Machine}
 use Rattle.layout.specs.Layout.{table_end, table_part, tail_at, machine_of, unpacked}
@@ -19,10 +19,10 @@ pub returns-then-n-gt-PLACES : goal.returns-then-n-gt-PLACES
 returns-then-n-gt-PLACES c = c.no_state-then-n-gt-PLACES.ensures ∙ not_laid_lem _ (λ l. omega (arith, c.if-n-gt-PLACES.true, end_before _ l))
 
 pub returns-then-not-all_zero : goal.returns-then-not-all_zero
-returns-then-not-all_zero c = c.no_state-then-not-all_zero.ensures ∙ not_laid_lem _ (λ l. not_zero _ _ c.all_zero.ensures c.if-not-all_zero.true l.gap)
+returns-then-not-all_zero c = c.no_state-then-not-all_zero.ensures ∙ not_laid_lem _ (λ l. not_zero _ _ c.all_zero.ensures (ap not c.if-not-all_zero.true) l.gap)
 
 pub returns-then-not-all_zero-2 : goal.returns-then-not-all_zero-2
-returns-then-not-all_zero-2 c = c.no_state-then-not-all_zero-2.ensures ∙ not_laid_lem _ (λ l. not_zero _ _ c.all_zero-2.ensures c.if-not-all_zero-2.true l.spare)
+returns-then-not-all_zero-2 c = c.no_state-then-not-all_zero-2.ensures ∙ not_laid_lem _ (λ l. not_zero _ _ c.all_zero-2.ensures (ap not c.if-not-all_zero-2.true) l.spare)
 
 pub returns-then-r-ne0 : goal.returns-then-r-ne0
 returns-then-r-ne0 c =
