@@ -47,7 +47,7 @@ module _ (t : Table) (eight : (i : ℕ) → i < t.count → length (callback_at 
   few = (fault_passed t ok).0.few
 
   slot : (i : ℕ) → i < t.count → callback_at u i ≡ callback_at t i
-  slot i l = placed_in (callback_at t) t.count i few l
+  slot i l = placed_in (callback_at t) _ i (omega (arith, few)) (omega (arith, l, few))
 
   alike : Alike t u
   alike =
@@ -63,7 +63,7 @@ module _ (t : Table) (eight : (i : ℕ) → i < t.count → length (callback_at 
   writable =
       record {
         faultless = ap (λ (r : Refusal). r.number) (sym (fault_alike t u refl (λ p. alike))) ∙ ok;
-        places-length = placed-length (callback_at t) t.count;
+        places-length = placed-length (callback_at t) _;
         entries_length = λ i l. ap (λ (c : Callback). length c.entries) (slot i l) ∙ eight i l;
         beyond = placed_out (callback_at t) t.count;
       }
