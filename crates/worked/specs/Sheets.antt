@@ -1,5 +1,5 @@
 -- The tables of document 01's worked cases, and the numbers of their sheets, read from the tables' bytes as the analyser reads them.
--- What a case leaves out has the value that the section states for it: edition 1, kind 2, and 0 for H, Z, J and next; full supply is Q = p = 1.
+-- What a case leaves out has the value that the section states for it: edition 1, kind 2, and 0 for H, Z, J and next; full supply is Q = P = 1.
 use Rattle.std.specs.Prelude.{List, [], ◌∷◌, ◌++◌, ℕ, ◌-◌, length, take, replicate}
 use Rattle.table.specs.declared.Callback.{Callback}
 use Rattle.table.specs.declared.Table.{Table}
@@ -20,7 +20,7 @@ timer = of_kind 1
 abbrev pub callback : ℕ → ℕ → ℕ → List ℕ → Callback
 callback = of_kind 2
 
--- a table with Q, p and its callbacks
+-- a table with Q, P and its callbacks
 abbrev pub of_supply : ℕ → ℕ → List Callback → Table
 of_supply Q p cs = table_of (edition_one ∷ length cs ∷ []) (Q ∷ p ∷ 0 ∷ 0 ∷ []) cs
 

@@ -1,4 +1,4 @@
--- Document 01, 'Reckoned by hand': the cases marked p as one table, a row each, and the one claim over it.
+-- Document 01, 'Reckoned by hand': the cases marked P as one table, a row each, and the one claim over it.
 -- A row has the numbers that the definitions give for a case and the numbers that the paper states, in the paper's order.
 use Rattle.std.specs.Prelude.{◌≡◌, Bool, true, false, ℕ, eqb}
 use mathlib.Core.List.{List, [], ◌∷◌, ◌++◌, map, Memᴰ}
