@@ -1,0 +1,5 @@
+-- The clause is that of the function of the library.
+use Rattle.cuorfelt_c.proofs.cuorfelt_start.Goals as goal
+
+pub returns : goal.returns
+returns c = c.cuorfelt_start.ensures
