@@ -1,5 +1,5 @@
 -- The values of a record and of a table, by slot (from 0); what a refusal is.
-use Rattle.std.specs.Prelude.{true, false, List, [], ◌∷◌, ℕ, zero, suc, get_or, set, take, replicate, eqb}
+use Rattle.std.specs.Prelude.{true, false, Result, Ok, Err, List, [], ◌∷◌, ℕ, zero, suc, get_or, set, take, replicate, eqb}
 use Rattle.numbers.specs.Numbers.{places, entry_places, default_horizon}
 use Rattle.table.specs.declared.Callback.{Callback}
 use Rattle.table.specs.declared.Refusal.{Refusal}
@@ -16,6 +16,10 @@ accepted = refuse 0 0
 -- the first of two refusals, tested in this order
 abbrev pub or_else : Refusal → Refusal → Refusal
 or_else r s = elim (eqb r.number 0) [ true ↦ s | false ↦ r ]
+
+-- x, unless something is refused
+abbrev pub unless : {A : Type 0} → Refusal → A → Result A Refusal
+unless r x = elim (eqb r.number 0) [ true ↦ Ok x | false ↦ Err r ]
 
 -- a refusal that names the callback found, or what follows where none was
 abbrev pub lowest_refused : ℕ → ℕ → Refusal → Refusal

@@ -1,5 +1,5 @@
 // The callback table of document 01: its values, and what its links and kinds mean.
-// links: who is named, heads.
+// links: who is named, heads. rows: the rows of the table of refusals.
 
 #![tactic(auto)]
 
@@ -7,6 +7,9 @@ ghost use Rattle.std.specs.Prelude.{◌≡◌, ℕ};
 ghost use Rattle.table.specs.Values.{refuse, blank_table, horizon_of};
 
 pub mod links;
+pub mod rows;
+
+pub use rows::Row;
 
 // The number and the callback index that document 01's table of refusals gives; number 0 where nothing is refused.
 #[repr(C)]
