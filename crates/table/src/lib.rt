@@ -1,14 +1,16 @@
 // The callback table of document 01: its values, and what its links and kinds mean.
-// links: who is named, heads. rows: the rows of the table of refusals.
+// kinds: the kinds of callbacks. links: who is named, heads. rows: the rows of the table of refusals.
 
 #![tactic(auto)]
 
 ghost use Rattle.std.specs.Prelude.{◌≡◌, ℕ};
 ghost use Rattle.table.specs.Values.{refuse, blank_table, horizon_of};
 
+pub mod kinds;
 pub mod links;
 pub mod rows;
 
+pub use kinds::{Kind, UnknownKind};
 pub use rows::Row;
 
 // The number and the callback index that document 01's table of refusals gives; number 0 where nothing is refused.
