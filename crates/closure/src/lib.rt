@@ -14,16 +14,12 @@ fn least_sum(entries: [u16; 8], sums: [u16; 8], k: u8) -> u16
     requires { k < entry_places }
     ensures { result ≡ smallest (entry entries (suc k)) k (λ j. entry entries (suc j) + entry sums (k - j)) }
 {
-    let mut best = entries[k as usize];
-    let mut j: u8 = 0;
-    while j < k {
+    let mut best = entries[k as usize] as u32;
+    for j in 0..k {
         let sum = entries[j as usize] as u32 + sums[(k - j - 1) as usize] as u32;
-        if sum < best as u32 {
-            best = sum as u16;
-        }
-        j += 1;
+        best = best.min(sum);
     }
-    best
+    best as u16
 }
 
 // The entries with each of the first `used` replaced by the least sum over the ways to split its position; the others as they are.
@@ -32,10 +28,8 @@ pub fn closed(entries: [u16; 8], used: u8) -> [u16; 8]
     ensures { result ≡ closed_of (take used entries) ++ drop used entries }
 {
     let mut sums = entries;
-    let mut k: u8 = 0;
-    while k < used {
+    for k in 0..used {
         sums[k as usize] = least_sum(entries, sums, k);
-        k += 1;
     }
     sums
 }

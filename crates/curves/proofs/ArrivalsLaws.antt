@@ -1,10 +1,17 @@
 -- Laws of the arrivals a(D): none in no time, at most one more a tick, so never more than D.
--- ceiling_mono, ceiling-step, ceiling_zero, ceiling_first: x / y rounded up. arrivals-none, arrivals_first, arrivals-some, arrivals_mono, arrivals-step, arrivals-le.
-use mathlib.Core.Path.{◌≡◌, refl}
+-- ceiling_is, ceiling_mono, ceiling-step, ceiling_zero, ceiling_first: x / y rounded up. arrivals-none, arrivals_first, arrivals-some, arrivals_mono, arrivals-step, arrivals-le.
+use mathlib.Core.Path.{◌≡◌, refl, sym}
 use Prim.Native.Nat.{ℕ, zero, suc, ◌+◌, ◌-◌, ◌/◌, ◌≤◌, ◌<◌, min}
-use native.Mathlib.Nat.{le-div_iff_mul-le, div-lt_iff_lt-mul, div-mul-le_self, lt-div-mul-add, zero-add, div-eq_of_lt}
+use native.Mathlib.Nat.{div-eq_of_lt-le, le-div_iff_mul-le, div-lt_iff_lt-mul, div-mul-le_self, lt-div-mul-add, zero-add, div-eq_of_lt}
 use native.Mathlib.Omega.{arith}
+use Rattle.std.specs.Int.{div_ceil}
+use Rattle.std.proofs.lemmas.Grind.{div_ceil_times}
 use Rattle.curves.specs.Arrivals.{ceiling, arrivals}
+
+-- as the library rounds
+pub ceiling_is : (x y : ℕ) → 0 < y → div_ceil x y ≡ ceiling x y
+unfolding ceiling
+ceiling_is x y p = let b = div_ceil_times x y p in sym (div-eq_of_lt-le y (omega (arith, b.1)) (grind (arith, b.0)))
 
 pub ceiling_mono : (x y k : ℕ) → 0 < k → x ≤ y → ceiling x k ≤ ceiling y k
 unfolding ceiling

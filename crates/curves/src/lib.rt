@@ -17,12 +17,9 @@ pub fn arrivals(period: u32, jitter: u32, distance: u32, length: u32) -> u32
     if length == 0 {
         return 0;
     }
-    let periodic = (length + jitter + (period - 1)) / period;
-    let spaced = (length + (distance - 1)) / distance;
-    if periodic < spaced {
-        return periodic;
-    }
-    spaced
+    let periodic = (length + jitter).div_ceil(period);
+    let spaced = length.div_ceil(distance);
+    periodic.min(spaced)
 }
 
 // E(count): the cost of that many consecutive instances, at most, by the first `used` of the entries.

@@ -1,6 +1,5 @@
 use mathlib.Core.Path.{◌≡◌, refl, ap, ◌∙◌}
 use Prim.Native.Nat.{ℕ, suc, ◌-◌, min}
-use native.Mathlib.Nat.{le_antisymm}
 use native.Mathlib.Omega.{arith}
 use borrow.Author.Rules.{rules}
 use lib.ListN.{get_or}
@@ -12,36 +11,27 @@ use Rattle.curves.specs.Cost.{entry}
 use Rattle.curves.proofs.CostLaws.{entry_at}
 use Rattle.closure.proofs.least_sum.Invariants.{first_sum}
 use Rattle.closure.proofs.least_sum.Goals as goal
-use Rattle.closure.proofs.least_sum.Goals.{then-sum-best, else-sum-best}
 
 pub loop-j-init : goal.loop-j-init
 unfolding smallest
-loop-j-init c = let whole : Fits w16 (get_or c.args.entries c.args.k 0) = search rules in (omega arith, omega arith, refl)
+loop-j-init c = let whole : Fits w16 (get_or c.args.entries c.args.k 0) = search rules in (omega arith, refl)
 
 pub overflow_add-sum : goal.overflow_add-sum
 overflow_add-sum c =
-    let a = c.before.before.args in
-    let l = c.before.loop-j in
+    let a = c.args in
+    let l = c.loop-j in
     let first : Fits w16 (get_or a.entries l.j 0) = search rules in
     let rest : Fits w16 (get_or a.sums (a.k - l.j - 1) 0) = search rules in
     omega arith
 
 pub loop-j-preserved : goal.loop-j-preserved
 loop-j-preserved c =
-    let a = c.before.before.before.args in
-    let l = c.before.before.loop-j in
+    let a = c.args in
+    let l = c.loop-j in
     let rest : entry a.sums (a.k - l.j) ≡ get_or a.sums (a.k - l.j - 1) 0 = entry_at a.sums (a.k - l.j) (omega arith) in
-    let next : c.if-sum-best.best ≡ min l.best (first_sum a.entries a.sums a.k l.j) =
-    elim c.if-sum-best.branch [ then-sum-best w ↦ omega (arith, rest) | else-sum-best w ↦ omega (arith, rest) ] in (
-      omega arith,
-      omega (arith, next, l.invariant.1),
+    let next : c.min-best.result ≡ min l.best (first_sum a.entries a.sums a.k l.j) = omega (arith, c.min-best.ensures, rest) in (
+      omega (arith, next, l.invariant.0),
       next
-          ∙ ap (λ (b : ℕ). min b (first_sum a.entries a.sums a.k l.j)) l.invariant.2
+          ∙ ap (λ (b : ℕ). min b (first_sum a.entries a.sums a.k l.j)) l.invariant.1
           ∙ smallest_more (entry a.entries (suc a.k)) (first_sum a.entries a.sums a.k) l.j,
     )
-
-pub returns : goal.returns
-returns c =
-    let a = c.before.before.args in
-    let l = c.before.loop-j in
-    l.invariant.2 ∙ ap (λ (n : ℕ). smallest (entry a.entries (suc a.k)) n (first_sum a.entries a.sums a.k)) (le_antisymm l.invariant.0 c.loop-j-test.false)

@@ -11,7 +11,4 @@ abbrev pub first_sum : List ℕ → List ℕ → ℕ → ℕ → ℕ
 first_sum entries sums k i = entry entries (suc i) + entry sums (k - i)
 
 abbrev pub invariant-loop-j : goal.invariant-loop-j
-invariant-loop-j l = (l.j ≤ l.k) × (l.best ≤ 65535) × (l.best ≡ smallest (entry l.entries (suc l.k)) l.j (first_sum l.entries l.sums l.k))
-
-abbrev pub decreases-loop-j : goal.decreases-loop-j
-decreases-loop-j l = l.k - l.j
+invariant-loop-j l = (l.best ≤ 65535) × (l.best ≡ smallest (entry l.entries (suc l.k)) l.j (first_sum l.entries l.sums l.k))
