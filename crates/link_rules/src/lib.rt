@@ -6,7 +6,7 @@ ghost use Rattle.std.specs.Prelude.{◌≡◌, true, ℕ, ◌≤◌, ◌<◌};
 ghost use Rattle.masks.specs.Mask.{has};
 ghost use Rattle.ranges.specs.Least.{lowest};
 ghost use Rattle.numbers.specs.Numbers.{places};
-ghost use Rattle.table.specs.Values.{callback_at, next_of};
+ghost use Rattle.table.specs.Values.{unless, callback_at, next_of};
 ghost use Rattle.link_rules.specs.Parts.{names_known, marks, reached_to};
 ghost use Rattle.link_rules.specs.LinkRules.{arrivals_fault, links_fault};
 
@@ -126,4 +126,16 @@ pub fn links_fault(t: Table) -> Refusal
         return refused(WRONG_ARRIVALS, wrong);
     }
     refused(0, 0)
+}
+
+// The links, then the arrivals.
+pub fn check_links(t: Table) -> Result<(), Refusal>
+    requires { (t.count ≤ places) × (names_known t ≡ true) }
+    ensures { result ≡ unless (links_fault t) tt }
+{
+    let refusal = links_fault(t);
+    if refusal.number != 0 {
+        return Err(refusal);
+    }
+    Ok(())
 }

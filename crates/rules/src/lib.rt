@@ -6,6 +6,7 @@
 ghost use Rattle.std.specs.Prelude.{◌≡◌, not, ◌&&◌, ℕ, ◌≤◌, ◌<◌};
 ghost use Rattle.ranges.specs.Every.{every};
 ghost use Rattle.numbers.specs.Numbers.{places};
+ghost use Rattle.table.specs.Values.{unless};
 ghost use Rattle.rules.specs.Rules.{head_fault, supply_fault, entries_fault, joins, sums_fault, unused_fault, record_fault_by, records_by, body_by, fault_of};
 
 use link_rules::links_fault;
@@ -207,4 +208,38 @@ pub fn fault(t: Table) -> Refusal
         return head;
     }
     body_fault(t, false, 0, true)
+}
+
+// Edition and count.
+pub fn check_head(edition: u8, count: u8) -> Result<(), Refusal>
+    ensures { result ≡ unless (head_fault edition count) tt }
+{
+    let refusal = head_fault(edition, count);
+    if refusal.number != 0 {
+        return Err(refusal);
+    }
+    Ok(())
+}
+
+// A table besides its edition and count; `spare` says that a spare byte of the header is not zero, `sums` that 24 is tested.
+pub fn check_body(t: Table, spare: bool, spares: u16, sums: bool) -> Result<(), Refusal>
+    requires { t.count ≤ places }
+    ensures { result ≡ unless (body_by sums spare spares t) tt }
+{
+    let refusal = body_fault(t, spare, spares, sums);
+    if refusal.number != 0 {
+        return Err(refusal);
+    }
+    Ok(())
+}
+
+// A table given as values.
+pub fn check(t: Table) -> Result<(), Refusal>
+    ensures { result ≡ unless (fault_of t) tt }
+{
+    let refusal = fault(t);
+    if refusal.number != 0 {
+        return Err(refusal);
+    }
+    Ok(())
 }
