@@ -1,5 +1,5 @@
 -- The first slot of a mask as an index: the lowest slot that passes, where the mask has just the slots that do. Assumes nothing.
--- index_none, index_some: by whether the mask has a slot. first_lowest, first_gather, first_both: of a mask, of one gathered, of two together.
+-- index_none, index_some: by whether the mask has a slot. is_none, is_some: what an index that may be missing says. first_lowest, first_gather, first_both: of a mask, of one gathered, of two together.
 use mathlib.Core.Path.{◌≡◌, refl, ap, ap₂, ◌∙◌}
 use mathlib.Core.Logic.{◌≢◌}
 use mathlib.Core.Bool.{Bool, true, false, ◌&&◌, and_assoc}
@@ -13,7 +13,8 @@ use Rattle.ranges.specs.Least.{lowest}
 use Rattle.ranges.proofs.LeastLaws.{lowest-hit, lowest_first, lowest-none}
 use Rattle.ranges.proofs.EveryLaws.{never_both}
 use Rattle.masks.specs.Mask.{has, gather}
-use Rattle.masks.specs.Parts.{both, first_of, first_index}
+use Rattle.masks.specs.Parts.{both, first_of, first_index, some_index}
+use Rattle.std.specs.Prelude.{Some, None}
 use Rattle.masks.proofs.Slots.{has_and, has_zero, mask_none}
 use Rattle.masks.proofs.Search.{first_is}
 use Rattle.masks.proofs.Gather.{gather-has, gather_mask}
@@ -25,6 +26,15 @@ index_none m e = rw (eq-eqb m 0 e, first_index)
 pub index_some : (m : ℕ) → m ≢ 0 → first_index m ≡ suc (first_of m)
 unfolding first_index
 index_some m h = rw (ne_eqb m 0 h, first_index)
+
+-- an index that is missing, and one that is there
+pub is_none : (x : ℕ) → None ≡ some_index x → x ≡ 0
+is_none zero e = refl
+is_none (suc i) e = absurd (cc)
+
+pub is_some : (x y : ℕ) → Some y ≡ some_index x → (x ≡ y) × (x ≢ 0)
+is_some zero y e = absurd (cc)
+is_some (suc i) y e = (cc, λ z. omega arith)
 
 module _ (q : ℕ → Bool) (n : ℕ) (le : n ≤ 16) where
   -- a mask that has just the slots below n that pass

@@ -1,5 +1,6 @@
 -- What the functions on masks give beyond what document 01 says by masks. both, except: two masks. first_from, first_of: a search.
-use Rattle.std.specs.Prelude.{ℕ, zero, suc, ◌-◌, eqb, true, false}
+-- first_index, some_index: the slot found, as an index.
+use Rattle.std.specs.Prelude.{ℕ, zero, suc, ◌-◌, eqb, true, false, Option, Some, None}
 use Rattle.std.specs.Int.Bits.{bit_and}
 use Rattle.masks.specs.Mask.{has}
 
@@ -23,3 +24,8 @@ first_of m = first_from 16 0 m
 -- the lowest slot of a mask as an index, or 0
 unfoldable pub first_index : ℕ → ℕ
 first_index m = elim (eqb m 0) [ true ↦ 0 | false ↦ suc (first_of m) ]
+
+-- an index, and nothing where it is 0
+abbrev pub some_index : ℕ → Option ℕ
+some_index zero = None
+some_index (suc i) = Some (suc i)

@@ -6,7 +6,7 @@
 
 ghost use Rattle.std.specs.Prelude.{◌≡◌, ℕ, ◌<◌, ◌≤◌, ◌-◌, ◌^◌};
 ghost use Rattle.masks.specs.Mask.{has, with_bit, without_bit, count_of};
-ghost use Rattle.masks.specs.Parts.{except, first_of, first_index};
+ghost use Rattle.masks.specs.Parts.{except, first_of, first_index, some_index};
 
 // Whether the mask has the slot.
 pub fn test_slot(mask: u16, slot: u16) -> bool
@@ -62,6 +62,16 @@ pub fn first_index(mask: u16) -> u8
         return 0;
     }
     (first(mask) + 1) as u8
+}
+
+// The lowest slot of the mask as an index.
+pub fn lowest_index(mask: u16) -> Option<u8>
+    ensures { result ≡ some_index (first_index mask) }
+{
+    if mask == 0 {
+        return None;
+    }
+    Some(lowest(mask) as u8 + 1)
 }
 
 // The slots of a mask that are not in another.

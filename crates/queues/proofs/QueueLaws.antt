@@ -14,7 +14,8 @@ use lib.Dec.{eqb, leb}
 use lib.ListN.{get_or}
 use borrow.Author.Tests.{eq-eqb, ne_eqb, le-leb, lt-leb}
 use Rattle.masks.specs.Mask.{has, with_bit, without_bit}
-use Rattle.masks.specs.Parts.{first_of}
+use Rattle.masks.specs.Parts.{first_of, some_index}
+use Rattle.std.specs.Prelude.{Some, None}
 use Rattle.masks.proofs.Slots.{has_zero, has_with, has_without_other}
 use Rattle.masks.proofs.Search.{first_of_below, lowest_set}
 use Rattle.ranges.proofs.LeastLaws.{lowest_is, lowest_never, lowest-same}
@@ -30,13 +31,13 @@ use Rattle.queues.specs.Parts.{full_in}
 -- ---- the slots of a mask that are full
 
 module _ (ws : List ℕ) (m r : ℕ) (first : (r ≡ first_of m) × (r < 16)) where
-  pub full-hit : most_waiting ≤ get_or ws r 0 → r + 1 ≡ full_in ws m
+  pub full-hit : most_waiting ≤ get_or ws r 0 → Some (r + 1) ≡ some_index (full_in ws m)
   unfolding full_in
   full-hit h =
-      add-one r
-      ∙ sym (lowest_is (λ j. has m j && leb most_waiting (get_or ws j 0)) places r first.1
+      ap Some (add-one r)
+      ∙ ap some_index (sym (lowest_is (λ j. has m j && leb most_waiting (get_or ws j 0)) places r first.1
       (ap₂ ◌&&◌ (lowest_set m r first) (le-leb most_waiting (get_or ws r 0) h))
-      (λ j l. ap (λ (b : Bool). b && leb most_waiting (get_or ws j 0)) (first_of_below m j (omega arith))))
+      (λ j l. ap (λ (b : Bool). b && leb most_waiting (get_or ws j 0)) (first_of_below m j (omega arith)))))
 
   pub full_miss : (x : ℕ) → get_or ws r 0 < most_waiting → x ≡ without_bit m r → full_in ws x ≡ full_in ws m
   unfolding full_in
@@ -51,9 +52,9 @@ module _ (ws : List ℕ) (m r : ℕ) (first : (r ≡ first_of m) × (r < 16)) wh
       go j (yes q) = rw q (not_full (has x r) ∙ sym (not_full (has m r)))
       go j (no q) = ap (λ (b : Bool). b && leb most_waiting (get_or ws j 0)) (ap (λ (y : ℕ). has y j) e ∙ has_without_other m r j q)
 
-pub full_end : (ws : List ℕ) (m : ℕ) → m ≡ 0 → 0 ≡ full_in ws m
+pub full_end : (ws : List ℕ) (m : ℕ) → m ≡ 0 → None ≡ some_index (full_in ws m)
 unfolding full_in
-full_end ws m e = sym (lowest_never _ places (λ j l. ap (λ (x : ℕ). has x j && leb most_waiting (get_or ws j 0)) e ∙ ap (λ (b : Bool). b && leb most_waiting (get_or ws j 0)) (has_zero j)))
+full_end ws m e = ap some_index (sym (lowest_never _ places (λ j l. ap (λ (x : ℕ). has x j && leb most_waiting (get_or ws j 0)) e ∙ ap (λ (b : Bool). b && leb most_waiting (get_or ws j 0)) (has_zero j))))
 
 -- ---- with the callback that is counted
 

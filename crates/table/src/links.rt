@@ -2,6 +2,7 @@
 
 ghost use Rattle.std.specs.Prelude.{◌≡◌, ℕ, ◌≤◌, ◌<◌};
 ghost use Rattle.masks.specs.Mask.{gather};
+ghost use Rattle.masks.specs.Parts.{some_index};
 ghost use Rattle.numbers.specs.Numbers.{places};
 ghost use Rattle.table.specs.Links.{is_head, next_after, foreign};
 ghost use Rattle.table.specs.Parts.{names_of, name_one};
@@ -77,5 +78,13 @@ pub fn first_foreign(t: Table, mask: u16) -> u8
     requires { t.count ≤ places }
     ensures { result ≡ foreign t mask }
 {
-    masks::first_index(masks::outside(mask, heads(t)))
+    lowest_foreign(t, mask).unwrap_or(0)
+}
+
+// The lowest bit of the mask that belongs to no head, as an index.
+pub fn lowest_foreign(t: Table, mask: u16) -> Option<u8>
+    requires { t.count ≤ places }
+    ensures { result ≡ some_index (foreign t mask) }
+{
+    masks::lowest_index(masks::outside(mask, heads(t)))
 }
