@@ -1,5 +1,5 @@
 -- Numbers in bytes: one, and several of one width. Assumes nothing.
--- get_more: a byte and the rest. past, get_past: behind a prefix. get-le, le-get: a number written and read, read and written.
+-- get_more: a byte and the rest. past, get_past: behind a prefix. get_part: in a part. get-le, le-get: a number written and read, read and written.
 -- numbers_snoc, numbers_at: one number more, and one of them. length_run, length-numbers. numbers-run, run-numbers: several numbers written and read, read and written.
 -- numbers-same, numbers-add: of bytes that are the same, and two runs one behind the other. get_four, le_four: four bytes as the code has them.
 use mathlib.Core.Path.{◌≡◌, refl, sym, ap, ap₂, ◌∙◌}
@@ -11,7 +11,7 @@ use native.Mathlib.Omega.{arith}
 use lib.Arith.{lt-one}
 use lib.Dec.{lit<}
 use lib.ListN.{length, get_or, take, drop, length-append}
-use lib.Seq.{get_or-append-add, drop-cons, drop-drop, take-add}
+use lib.Seq.{get_or-append-add, get_or-take, get_or-drop, drop-cons, drop-drop, take-add}
 use Rattle.lent.specs.Bytes.{get, le, numbers, run}
 use Rattle.lent.specs.Parts.{Below}
 
@@ -30,6 +30,16 @@ get_past (suc w) p q k n e =
     get_more w (p ++ q) (k + n)
     ∙ ap₂ (λ (x y : ℕ). x + y * 256) (past p q k n e) (ap (get w (p ++ q)) (add_assoc k n 1) ∙ get_past w p q k (n + 1) e)
     ∙ sym (get_more w q n)
+
+-- in a part of the bytes
+pub get_part : (w n : ℕ) (b : List ℕ) (k o : ℕ) → o + w ≤ n → get w (take n (drop k b)) o ≡ get w b (k + o)
+get_part zero n b k o h = refl
+get_part (suc w) n b k o h =
+    get_more w (take n (drop k b)) o
+    ∙ ap₂ (λ (x y : ℕ). x + y * 256)
+    (get_or-take n (drop k b) o 0 (omega arith) ∙ get_or-drop k b o 0)
+    (get_part w n b k (o + 1) (omega arith) ∙ ap (get w b) (sym (add_assoc k o 1)))
+    ∙ sym (get_more w b (k + o))
 
 pub get-le : (w x : ℕ) (q : List ℕ) → x < 256 ^ w → get w (le w x ++ q) 0 ≡ x
 get-le zero x q h = sym (lt-one h)

@@ -62,6 +62,11 @@ module _ (b : List ℕ) (k : ℕ) where
       ∙ append_assoc (take k b) vs (ws ++ drop (k + length (vs ++ ws)) b)
       ∙ ap (λ (x : List ℕ). take k b ++ x) (sym (append_assoc vs ws (drop (k + length (vs ++ ws)) b)))
 
+-- a part lent and given back with other elements
+pub over-part : (b vs : List ℕ) (k n : ℕ) → n ≡ length vs → take k b ++ (vs ++ drop n (drop k b)) ≡ over b k vs
+unfolding over
+over-part b vs k n e = ap (λ (l : List ℕ). take k b ++ (vs ++ l)) (drop-drop n k b ∙ ap (λ (j : ℕ). drop (k + j) b) e)
+
 -- all of it
 pub over_all : (b vs : List ℕ) → length vs ≡ length b → over b 0 vs ≡ vs
 unfolding over

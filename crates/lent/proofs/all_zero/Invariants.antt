@@ -6,7 +6,4 @@ use Rattle.lent.specs.Bytes.{zeros}
 use Rattle.lent.proofs.all_zero.Given as goal
 
 abbrev pub invariant-loop-i : goal.invariant-loop-i
-invariant-loop-i l = (l.from ≤ l.i) × (l.i - l.from ≤ l.to - l.from) × (eqb l.any 0 ≡ zeros l.b l.from (l.i - l.from))
-
-abbrev pub decreases-loop-i : goal.decreases-loop-i
-decreases-loop-i l = l.to - l.i
+invariant-loop-i l = (l.i - l.from ≤ l.to - l.from) × (eqb l.any 0 ≡ zeros l.b l.from (l.i - l.from))

@@ -1,38 +1,18 @@
-use mathlib.Core.Path.{◌≡◌, sym, ap, ◌∙◌}
-use mathlib.Core.List.{List}
-use Prim.Native.Nat.{ℕ, ◌+◌}
-use lib.ListN.{length, replicate, set}
-use Rattle.lent.specs.Over.{over}
-use Rattle.lent.proofs.Replace.{over_nil, over_replicate, over_replicate_length}
+-- The part lent is given back as zeros.
+use mathlib.Core.Path.{◌≡◌, ap, ◌∙◌}
+use Prim.Native.Nat.{ℕ, ◌+◌, ◌-◌}
+use lib.ListN.{length, replicate, take, drop, length-replicate, length-drop}
+use lib.Seq.{length-take-le}
 use native.Mathlib.Omega.{arith}
+use Rattle.lent.specs.Over.{over}
+use Rattle.lent.proofs.Replace.{over-part}
 use Rattle.lent.proofs.zero.Goals as goal
-
-pub loop-i-init : goal.loop-i-init
-loop-i-init c = (omega arith, sym (over_nil _ _))
-
-pub bounds-b-at : goal.bounds-b-at
-bounds-b-at c =
-    let a = c.before.before.args in
-    let l = c.before.loop-i in
-    omega (arith, ap length l.invariant.1, over_replicate_length a.b.now a.at 0 l.i a.count (omega arith) (omega arith))
-
-pub loop-i-preserved : goal.loop-i-preserved
-loop-i-preserved c =
-    let a = c.before.before.args in
-    let l = c.before.loop-i in (
-      omega arith,
-      ap (λ (x : List ℕ). set x (a.at + l.i) 0) l.invariant.1 ∙ over_replicate a.b.now a.at 0 l.i (omega arith),
-    )
-
-pub shape_of-b : goal.shape_of-b
-shape_of-b c =
-    let a = c.before.before.args in
-    let l = c.before.loop-i in
-    ap length l.invariant.1 ∙ over_replicate_length a.b.now a.at 0 l.i a.count (omega arith) (omega arith)
 
 pub returns : goal.returns
 returns c =
-    let a = c.before.before.args in
-    let l = c.before.loop-i in
-    let done : l.i ≡ a.count = omega arith in
-    l.invariant.1 ∙ ap (λ (n : ℕ). over a.b.now a.at (replicate n 0)) done
+    let a = c.args in
+    let n : a.at + a.count - a.at ≡ a.count = omega arith in
+    let m : length (take a.count (drop a.at a.b.now)) ≡ a.count = length-take-le a.count (drop a.at a.b.now) (omega (arith, length-drop a.at a.b.now)) in
+    let e : c.fill.new.self ≡ replicate a.count 0 =
+    c.fill.ensures.after (λ y h. h) ∙ ap (λ (j : ℕ). replicate (length (take j (drop a.at a.b.now))) 0) n ∙ ap (λ (j : ℕ). replicate j 0) m in
+    over-part a.b.now c.fill.new.self a.at _ (omega (arith, ap length e, length-replicate {A = ℕ} a.count 0)) ∙ ap (over a.b.now a.at) e
