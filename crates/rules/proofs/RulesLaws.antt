@@ -1,22 +1,25 @@
 -- The rules of one record, and of the records in turn. Assumes nothing.
 -- cost-none, cost_many, cost_miss, cost_all: rule 10. joins_at, joins_not, joins_well, joins_half: rule 24, of one pair, and of all by half of them. unused_miss, unused_all: rule 5, the unused entries. records_stop, records_next, records_end: the records in turn.
 -- first_refused, first_passed, both_passed: the first of two refusals. lowest-refused, lowest_passed, lowest_zero: the lowest callback that is refused.
-use mathlib.Core.Path.{◌≡◌, sym, ap, ap₂, ◌∙◌}
+use mathlib.Core.Path.{◌≡◌, refl, sym, ap, ap₂, ◌∙◌}
 use mathlib.Core.Logic.{◌⊎◌, inl, inr, ◌≢◌}
-use mathlib.Core.Bool.{Bool, true, false, not, ◌&&◌, ◌||◌, and-false}
+use mathlib.Core.Bool.{Bool, true, false, not, ◌&&◌, ◌||◌, and-false, or-true}
 use mathlib.Core.List.{List}
 use Prim.Native.Nat.{ℕ, zero, suc, ◌+◌, ◌-◌, ◌≤◌, ◌<◌}
 use native.Mathlib.Numerals.{add-one}
 use native.Mathlib.Omega.{arith}
 use lib.Dec.{eqb, ltb, leb}
-use lib.ListN.{get_or}
+use lib.ListN.{get_or, length, drop}
+use Rattle.std.specs.List.{list_any}
 use borrow.Author.Tests.{ne_eqb, lt-ltb, le-ltb, le-leb, lt-leb, leb-true}
 use Rattle.masks.specs.Mask.{has}
 use Rattle.curves.specs.Cost.{entry}
 use Rattle.curves.proofs.CostLaws.{entry_at}
-use Rattle.ranges.specs.Every.{every}
+use Rattle.ranges.specs.Every.{every, some}
+use Rattle.ranges.proofs.AnyLaws.{any_some, some_at}
 use Rattle.ranges.proofs.SumLaws.{le_or_lt}
-use Rattle.ranges.proofs.EveryLaws.{every_at, every_all, every_miss}
+use Rattle.std.proofs.lemmas.List.{length-drop, get_or-drop}
+use Rattle.ranges.proofs.EveryLaws.{every_at, every_all, every_miss, never_both, flipped, some_miss}
 use Rattle.table.specs.declared.Callback.{Callback}
 use Rattle.table.specs.declared.Refusal.{Refusal}
 use Rattle.table.specs.declared.Table.{Table}
@@ -100,6 +103,35 @@ module _ (c : Callback) where
   pub unused_all : ((k : ℕ) → k < entry_places → blank_beyond c k ≡ true) → false ≡ unused_fault c
   unfolding unused_fault
   unused_all h = simp (every_all (blank_beyond c) entry_places h)
+
+-- what a search beyond m gives
+abbrev pub not_zero : ℕ → Bool
+not_zero x = not (eqb x 0)
+
+module _ (c : Callback) (whole : length c.entries ≡ entry_places) where
+  pub unused_any : list_any not_zero (drop c.used c.entries) ≡ unused_fault c
+  unused_any = any_some not_zero (drop c.used c.entries) 0 ∙ go (some n q) refl
+    where
+      n : ℕ
+      n = length (drop c.used c.entries)
+
+      q : ℕ → Bool
+      q k = not_zero (get_or (drop c.used c.entries) k 0)
+
+      go : (b : Bool) → some n q ≡ b → b ≡ unused_fault c
+      go true e =
+          let w = some_at q n e in
+          let at = get_or-drop c.used c.entries w.0 0 in
+          unused_miss c (c.used + w.0) (omega (arith, w.1, whole, length-drop c.used c.entries)) (omega arith) (λ z. never_both (q w.0) w.2 (ap not_zero (at ∙ z)))
+      go false e = unused_all c (λ k h. clear k h (le_or_lt c.used k))
+        where
+          clear : (k : ℕ) → k < entry_places → (c.used ≤ k) ⊎ (k < c.used) → blank_beyond c k ≡ true
+          clear k h (inr l) = simp (lt-ltb k c.used l)
+          clear k h (inl m) =
+              let back : c.used + (k - c.used) ≡ k = omega (arith, m) in
+              let at = get_or-drop c.used c.entries (k - c.used) 0 ∙ ap (λ (i : ℕ). get_or c.entries i 0) back in
+              let zero_there = flipped _ _ (some_miss q n (k - c.used) e (omega (arith, h, m, whole, length-drop c.used c.entries))) in
+              ap (λ (b : Bool). ltb k c.used || b) (ap (λ (x : ℕ). eqb x 0) (sym at) ∙ zero_there) ∙ or-true (ltb k c.used)
 
 -- ---- the records in turn
 

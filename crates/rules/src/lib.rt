@@ -40,13 +40,7 @@ pub fn head_fault(edition: u8, count: u8) -> Refusal
 fn supply_fault(budget: u16, period: u16) -> bool
     ensures { result ≡ supply_fault budget period }
 {
-    if budget == 0 {
-        return true;
-    }
-    if budget > period {
-        return true;
-    }
-    period > LONGEST
+    budget == 0 || budget > period || period > LONGEST
 }
 
 // Whether m or one of the entries E(1) to E(m) is against the rules.
@@ -54,24 +48,15 @@ fn entries_fault(c: Callback) -> bool
     ensures { result ≡ entries_fault c }
 {
     let m = c.used;
-    if m == 0 {
-        return true;
-    }
-    if m > ENTRY_PLACES {
+    if m == 0 || m > ENTRY_PLACES {
         return true;
     }
     let mut last: u16 = 0;
-    let mut k: u8 = 0;
-    while k < m {
-        let entry = c.entries[k as usize];
-        if entry <= last {
-            return true;
-        }
-        if entry > LONGEST {
+    for &entry in &c.entries[..m as usize] {
+        if entry <= last || entry > LONGEST {
             return true;
         }
         last = entry;
-        k += 1;
     }
     false
 }
@@ -83,14 +68,12 @@ fn above_sum(c: Callback, k: u8) -> bool
     ensures { result ≡ not (every k (joins c.entries k)) }
 {
     let whole = c.entries[k as usize] as u32;
-    let mut j: u8 = 0;
-    while j + j < k {
+    for j in 0..(k + 1) / 2 {
         let rest = k - j - 1;
         let sum = c.entries[j as usize] as u32 + c.entries[rest as usize] as u32;
         if whole > sum {
             return true;
         }
-        j += 1;
     }
     false
 }
@@ -100,32 +83,17 @@ fn sums_fault(c: Callback, sums: bool) -> bool
     requires { c.used ≤ 8 }
     ensures { result ≡ (sums && sums_fault c) }
 {
-    if !sums {
-        return false;
-    }
-    let m = c.used;
-    let mut k: u8 = 0;
-    while k < m {
-        if above_sum(c, k) {
-            return true;
-        }
-        k += 1;
-    }
-    false
+    sums && (0..c.used).any(|k| above_sum(c, k))
 }
 
 // Whether an entry beyond E(m) is not zero.
 fn unused_fault(c: Callback) -> bool
     ensures { result ≡ unused_fault c }
 {
-    let mut k = c.used;
-    while k < ENTRY_PLACES {
-        if c.entries[k as usize] != 0 {
-            return true;
-        }
-        k += 1;
-    }
-    false
+    c.entries
+        .iter()
+        .skip(c.used as usize)
+        .any(|&entry| entry != 0)
 }
 
 // The number that a record of n is refused with, 0 where it is not.

@@ -1,13 +1,9 @@
 -- `above_sum` meets its contract: the first j ways to split k + 1 in two have no lower sum, and half of them suffice. Assumes nothing.
 use mathlib.Core.Path.{◌≡◌}
 use mathlib.Core.Bool.{true}
-use Prim.Native.Nat.{◌≤◌, ◌-◌}
 use Rattle.ranges.specs.Every.{every}
 use Rattle.rules.specs.Rules.{joins}
 use Rattle.rules.proofs.above_sum.Given as goal
 
 abbrev pub invariant-loop-j : goal.invariant-loop-j
-invariant-loop-j l = (l.j ≤ l.k) × (every l.j (joins l.c.entries l.k) ≡ true)
-
-abbrev pub decreases-loop-j : goal.decreases-loop-j
-decreases-loop-j l = l.k - l.j
+invariant-loop-j l = every l.j (joins l.c.entries l.k) ≡ true
