@@ -6,7 +6,8 @@
 
 ghost use Rattle.std.specs.Prelude.{◌≡◌, ℕ, ◌<◌, ◌≤◌, ◌-◌, ◌^◌};
 ghost use Rattle.masks.specs.Mask.{has, with_bit, without_bit, count_of};
-ghost use Rattle.masks.specs.Parts.{except, first_of, first_index, some_index};
+ghost use Rattle.std.specs.Iterator.{at_most};
+ghost use Rattle.masks.specs.Parts.{except, first_of, first_index, some_index, takes_lowest};
 
 // Whether the mask has the slot.
 pub fn test_slot(mask: u16, slot: u16) -> bool
@@ -36,14 +37,14 @@ pub fn clear_slot(mask: u16, slot: u16) -> u16
 pub fn count(mask: u16) -> u32
     ensures { result ≡ count_of 16 mask }
 {
-    u16::count_ones(mask)
+    mask.count_ones()
 }
 
 // The lowest slot that the mask has, 16 where it has none.
 pub fn first(mask: u16) -> u32
     ensures { result ≡ first_of mask }
 {
-    u16::trailing_zeros(mask)
+    mask.trailing_zeros()
 }
 
 // The lowest slot of a mask that has one.
@@ -86,7 +87,37 @@ pub fn others(n: u8, mask: u16) -> u16
     requires { n ≤ 16 }
     ensures { result ≡ except (2 ^ n - 1) mask }
 {
-    let end: u32 = 1 << (n as u32);
+    let end = 1u32 << n;
     let all = (end - 1) as u16;
     all & !mask
+}
+
+// The slots of a mask that are still to come.
+#[derive(Drop)]
+pub struct SlotsLeft {
+    pub mask: u16,
+}
+
+// The slots of the mask, the lowest first.
+pub fn slots_of(mask: u16) -> SlotsLeft
+    ensures { result.mask ≡ mask }
+{
+    SlotsLeft { mask }
+}
+
+impl Iterator for SlotsLeft {
+    type Item = u16;
+
+    ghost next_gives = { takes_lowest };
+
+    ghost remaining = { λ s. at_most s.mask };
+
+    fn next(&mut self) -> Option<u16> {
+        if self.mask == 0 {
+            return None;
+        }
+        let slot = lowest(self.mask);
+        self.mask = clear_slot(self.mask, slot);
+        Some(slot)
+    }
 }

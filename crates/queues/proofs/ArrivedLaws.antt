@@ -11,7 +11,7 @@ use native.Mathlib.Omega.{arith}
 use lib.ListN.{length, get_or, length-set}
 use lib.Seq.{get_or-set_same, get_or-set_other, ext_get_or}
 use Rattle.masks.specs.Mask.{has, without_bit}
-use Rattle.masks.proofs.Slots.{has_zero, has_without_same, has_without_other, without_le}
+use Rattle.masks.proofs.Slots.{has_zero, has_without_same, has_without_other}
 use Rattle.ranges.specs.Sum.{given}
 use Rattle.ranges.proofs.EveryLaws.{never_both}
 use Rattle.numbers.specs.Numbers.{places, most_waiting}
@@ -90,9 +90,8 @@ arrived-one mask i ws n l e =
         go (yes p) = rw (p, has_without_same mask i, e, get_or-set_same ws i (get_or ws i 0 + 1) 0 (omega arith)) (add-zero _)
         go (no p) = rw (has_without_other mask i j p, get_or-set_other ws i j (get_or ws i 0 + 1) 0 p)
 
--- what stands while the slots of a mask are counted one after the other: `rest` is still to count, and `ws` has the others
+-- what stands while the slots of a mask are counted one after the other: those of `rest` are still to count, and `ws` has the others
 pub record Counting (mask : ℕ) (ws₀ : List ℕ) (rest : ℕ) (ws : List ℕ) : Type 0 where
-  pub small : rest < 65536
   pub sized : length ws ≡ places
   pub room : (i : ℕ) → i < places → has rest i ≡ true → get_or ws i 0 ≤ most_waiting
   pub same : arrived rest ws ≡ arrived mask ws₀
@@ -100,7 +99,6 @@ pub record Counting (mask : ℕ) (ws₀ : List ℕ) (rest : ℕ) (ws : List ℕ)
 pub counting_one : (mask : ℕ) (ws₀ : List ℕ) (rest : ℕ) (ws : List ℕ) (i r : ℕ) → Counting mask ws₀ rest ws
     → i < places → has rest i ≡ true → r ≡ without_bit rest i → Counting mask ws₀ r (gained i ws)
 counting_one mask ws₀ rest ws i r k l e q = record {
-  small = omega (arith, without_le rest i, k.small);
   sized = length-set ws i _ ∙ k.sized;
   room = λ j h f. room j h (ap (λ (x : ℕ). has x j) (sym q) ∙ f) (ℕ_discrete j i);
   same = ap (λ (x : ℕ). arrived x (gained i ws)) q ∙ arrived-one rest i ws k.sized l e ∙ k.same;

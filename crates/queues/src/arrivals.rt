@@ -4,7 +4,7 @@ ghost use Rattle.std.specs.Prelude.{◌≡◌, ℕ, ◌+◌, ◌≤◌, ◌<◌,
 ghost use Rattle.numbers.specs.Numbers.{places, most_waiting};
 ghost use Rattle.queues.specs.Queues.{arrived, completed};
 
-use masks::lowest;
+use masks::slots_of;
 
 // Step 1: one more for each slot of the mask.
 pub fn arrive(waiting: [u16; 16], mask: u16) -> [u16; 16]
@@ -12,12 +12,8 @@ pub fn arrive(waiting: [u16; 16], mask: u16) -> [u16; 16]
     ensures { result ≡ arrived mask waiting }
 {
     let mut counts = waiting;
-    let mut rest = mask;
-    while rest != 0 {
-        let slot = lowest(rest);
-        let i = slot as usize;
-        counts[i] = counts[i] + 1;
-        rest = masks::clear_slot(rest, slot);
+    for slot in slots_of(mask) {
+        counts[slot as usize] += 1;
     }
     counts
 }
@@ -28,12 +24,9 @@ pub fn complete(waiting: [u16; 16], slot: u8, next: u8) -> [u16; 16]
     ensures { result ≡ completed slot next waiting }
 {
     let mut counts = waiting;
-    let i = slot as usize;
-    counts[i] = counts[i] - 1;
-    if next == 0 {
-        return counts;
+    counts[slot as usize] -= 1;
+    if next != 0 {
+        counts[(next - 1) as usize] += 1;
     }
-    let j = (next - 1) as usize;
-    counts[j] = counts[j] + 1;
     counts
 }

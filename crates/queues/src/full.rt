@@ -5,20 +5,17 @@ ghost use Rattle.masks.specs.Parts.{some_index};
 ghost use Rattle.queues.specs.Queues.{full_with};
 ghost use Rattle.queues.specs.Parts.{full_in};
 
-use masks::lowest;
+use masks::slots_of;
 use numbers::{MOST_WAITING, PLACES};
 
 // The lowest callback of the mask that has 255 waiting.
 fn first_full(waiting: [u16; 16], mask: u16) -> Option<u8>
     ensures { result ≡ some_index (full_in waiting mask) }
 {
-    let mut rest = mask;
-    while rest != 0 {
-        let slot = lowest(rest);
+    for slot in slots_of(mask) {
         if waiting[slot as usize] >= MOST_WAITING {
             return Some(slot as u8 + 1);
         }
-        rest = masks::clear_slot(rest, slot);
     }
     None
 }
