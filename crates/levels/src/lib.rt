@@ -3,80 +3,70 @@
 
 #![tactic(auto)]
 
-ghost use Rattle.std.specs.Prelude.{◌≡◌, ℕ, ◌<◌, ◌≤◌, max, min};
+ghost use Rattle.std.specs.Prelude.{◌≡◌, ℕ, ◌<◌, ◌≤◌};
 ghost use Rattle.numbers.specs.Numbers.{places, longest};
 ghost use Rattle.priority.specs.Priority.{precedes};
-ghost use Rattle.rules.specs.Parts.{Sound};
 ghost use Rattle.windows.specs.Bounds.{window_of, bound_of_all, everyone as everyone_of};
-ghost use Rattle.windows.specs.Parts.{Costed, Headed};
+ghost use Rattle.windows.specs.Parts.{found, Costed};
 ghost use Rattle.levels.specs.Levels.{overtakes as overtakes_of, lower_than, blocking_by, bound_of_level, bound_of};
 ghost use Rattle.levels.specs.Parts.{single_of};
 
 use numbers::{EDITION_ONE, TIMER};
-use table::{Callback, Table};
-use windows::Level;
+use table::Callback;
+use windows::{Chained, Level};
 
 // All callbacks.
-fn everyone(t: Table) -> Level
-    requires { Sound t }
-    ensures { result ≡ everyone_of t }
+fn everyone(t: &Chained) -> Level
+    ensures { result ≡ everyone_of t.now.table }
 {
     Level {
         below: 0,
         blocking: 0,
-        horizon: table::horizon(t) as u32,
+        horizon: table::horizon(t.table) as u32,
     }
 }
 
-// W: the least length in 1 to the horizon whose supply covers the demand of all callbacks; 0 where there is none.
-pub fn window(t: Table, heads: [u8; 16]) -> u32
-    requires { Headed t heads }
-    ensures { (result ≡ window_of t) × (result ≤ longest) }
+// W: the least length in 1 to the horizon whose supply covers the demand of all callbacks.
+pub fn window(t: &Chained) -> Option<u32>
+    ensures { (result ≡ found (window_of t.now.table)) × (window_of t.now.table ≤ longest) }
 {
-    let level = everyone(t);
-    windows::window(t, heads, level)
+    t.window(everyone(t))
 }
 
 // The bound of slot x over all callbacks.
-fn bound_of_all(t: Table, heads: [u8; 16], x: usize, window: u32) -> u32
-    requires { Headed t heads × (x < t.count) × (window ≡ window_of t) × (window ≤ longest) }
-    ensures { (result ≡ bound_of_all t x) × (result ≤ longest) }
+fn bound_of_all(t: &Chained, x: usize, window: u32) -> u32
+    requires { (x < t.now.table.count) × (window ≡ window_of t.now.table) × (window ≤ longest) }
+    ensures { (result ≡ bound_of_all t.now.table x) × (result ≤ longest) }
 {
-    let level = everyone(t);
-    windows::bound(t, heads, level, x, window)
+    t.bound(everyone(t), x, window)
 }
 
 // Whether slot x has a higher priority than slot i.
-fn goes_before(t: Table, x: usize, i: usize) -> bool
+fn goes_before(t: &Chained, x: usize, i: usize) -> bool
     requires { (x < places) × (i < places) }
-    ensures { result ≡ precedes t x i }
+    ensures { result ≡ precedes t.now.table x i }
 {
-    let kind = t.callbacks[x].kind;
-    let other = t.callbacks[i].kind;
-    if kind == other {
-        return x < i;
-    }
-    kind < other
+    let kind = t.table.callbacks[x].kind;
+    let other = t.table.callbacks[i].kind;
+    kind < other || (kind == other && x < i)
 }
 
 // The slots of lower priority than slot x.
-fn lower(t: Table, x: usize) -> u16
-    requires { Sound t × (x < t.count) }
-    ensures { result ≡ lower_than t x }
+fn lower(t: &Chained, x: usize) -> u16
+    requires { x < t.now.table.count }
+    ensures { result ≡ lower_than t.now.table x }
 {
-    let n = t.count as usize;
-    let mut below: u16 = 0;
-    let mut i: usize = 0;
-    while i < n {
+    let mut below = 0;
+    for i in 0..t.table.count as usize {
         if goes_before(t, x, i) {
             below = masks::set_slot(below, i as u16);
         }
-        i += 1;
     }
     below
 }
 
 // E(1) of a callback.
+#[tactic(auto, unfolding(crate::specs::Parts::single_of))]
 fn single(c: Callback) -> u32
     requires { Costed c }
     ensures { (result ≡ single_of c) × (result ≤ 65535) }
@@ -85,82 +75,51 @@ fn single(c: Callback) -> u32
     curves::cost(entries, c.used, 1) as u32
 }
 
-// The larger of two numbers.
-fn larger(a: u32, b: u32) -> u32
-    ensures { result ≡ max a b }
-{
-    if a < b {
-        return b;
-    }
-    a
-}
-
-// The smaller of two numbers.
-fn smaller(a: u32, b: u32) -> u32
-    ensures { result ≡ min a b }
-{
-    if b < a {
-        return b;
-    }
-    a
-}
-
 // What an instance of a mask's slots may take from a level that comes when it has just started: the largest E(1), less the unit that it had.
-fn blocking(t: Table, below: u16) -> u16
-    requires { Sound t }
-    ensures { result ≡ blocking_by t below }
+fn blocking(t: &Chained, below: u16) -> u16
+    ensures { result ≡ blocking_by t.now.table below }
 {
-    let n = t.count as usize;
     let mut most: u32 = 0;
-    let mut i: usize = 0;
-    while i < n {
+    for i in 0..t.table.count as usize {
         if masks::test_slot(below, i as u16) {
-            let c = t.callbacks[i];
-            most = larger(most, single(c));
+            most = most.max(single(t.table.callbacks[i]));
         }
-        i += 1;
     }
-    if most == 0 {
-        return 0;
-    }
-    (most - 1) as u16
+    most.saturating_sub(1) as u16
 }
 
 // The bound of slot x over its level: itself and those of higher priority.
-fn bound_of_level(t: Table, heads: [u8; 16], x: usize, window: u32) -> u32
-    requires { Headed t heads × (x < t.count) × (window ≡ window_of t) × (window ≤ longest) }
-    ensures { (result ≡ bound_of_level t x) × (result ≤ longest) }
+fn bound_of_level(t: &Chained, x: usize, window: u32) -> u32
+    requires { (x < t.now.table.count) × (window ≡ window_of t.now.table) × (window ≤ longest) }
+    ensures { (result ≡ bound_of_level t.now.table x) × (result ≤ longest) }
 {
     let below = lower(t, x);
     let level = Level {
-        below: below,
+        below,
         blocking: blocking(t, below),
         horizon: window,
     };
-    let own = windows::window(t, heads, level);
-    windows::bound(t, heads, level, x, own)
+    let own = t.window(level).unwrap_or(0);
+    t.bound(level, x, own)
 }
 
 // Whether slot x is a timer of edition 1, which goes before all that is polled.
-fn overtakes(t: Table, x: usize) -> bool
-    requires { Sound t × (x < t.count) }
-    ensures { result ≡ overtakes_of t x }
+#[tactic(auto, unfolding(crate::specs::Levels::overtakes))]
+fn overtakes(t: &Chained, x: usize) -> bool
+    requires { x < t.now.table.count }
+    ensures { result ≡ overtakes_of t.now.table x }
 {
-    if t.edition != EDITION_ONE {
-        return false;
-    }
-    t.callbacks[x].kind == TIMER
+    t.table.edition == EDITION_ONE && t.table.callbacks[x].kind == TIMER
 }
 
 // The number of slot x in the row.
-pub fn bound(t: Table, heads: [u8; 16], x: usize, window: u32) -> u32
-    requires { Headed t heads × (x < t.count) × (window ≡ window_of t) × (window ≤ longest) }
-    ensures { (result ≡ bound_of t x) × (result ≤ longest) }
+pub fn bound(t: &Chained, x: usize, window: u32) -> u32
+    requires { (x < t.now.table.count) × (window ≡ window_of t.now.table) × (window ≤ longest) }
+    ensures { (result ≡ bound_of t.now.table x) × (result ≤ longest) }
 {
-    let all = bound_of_all(t, heads, x, window);
+    let all = bound_of_all(t, x, window);
     if overtakes(t, x) {
-        let level = bound_of_level(t, heads, x, window);
-        return smaller(all, level);
+        return all.min(bound_of_level(t, x, window));
     }
     all
 }

@@ -1,5 +1,5 @@
 -- What the search's inner functions compute, and what they may assume of a table without faults.
-use Rattle.std.specs.Prelude.{◌≡◌, Bool, List, ℕ, ◌+◌, ◌*◌, ◌≤◌, ◌<◌, length, get_or}
+use Rattle.std.specs.Prelude.{◌≡◌, Bool, List, ℕ, zero, suc, ◌+◌, ◌*◌, ◌≤◌, ◌<◌, Option, Some, None, length, get_or}
 use Rattle.ranges.specs.Sum.{sum}
 use Rattle.masks.specs.Mask.{with_bit}
 use Rattle.numbers.specs.Numbers.{places, entry_places, longest}
@@ -53,6 +53,11 @@ finish_in t v = finish t.count (arrivals_in t v) (cost_of t) (supply_of t) v.blo
 -- the inverse of the table's supply, of lengths up to `most`
 unfoldable pub reach_of : Table → ℕ → ℕ → ℕ
 reach_of t most = reach_up_to most (reach t.budget t.period t.delay)
+
+-- a length that was searched for, where there is one: the definitions say 0 where there is none
+abbrev pub found : ℕ → Option ℕ
+found zero = None
+found (suc D) = Some (suc D)
 
 -- what the curves ask of a head's record
 pub record Spaced (c : Callback) : Type 0 where

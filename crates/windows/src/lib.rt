@@ -1,15 +1,14 @@
 // The busy window of a level of a table, and the bound of a callback in it: of all callbacks (document 01, 'The sheet'), or of a timer and
 // those above it (document 02, U5).
-// The functions ask for a table without faults, with the head of each slot's chain (Headed of specs/Parts.antt).
 
 #![tactic(auto)]
 
-ghost use Rattle.std.specs.Prelude.{◌≡◌, ℕ, ◌<◌, ◌≤◌, ◌-◌, max, false};
+ghost use Rattle.std.specs.Prelude.{◌≡◌, ℕ, ◌<◌, ◌≤◌, false};
 ghost use Rattle.masks.specs.Mask.{has};
-ghost use Rattle.numbers.specs.Numbers.{longest};
+ghost use Rattle.numbers.specs.Numbers.{places, longest};
 ghost use Rattle.rules.specs.Parts.{Sound};
 ghost use Rattle.windows.specs.Bounds.{window_in, bound_in};
-ghost use Rattle.windows.specs.Parts.{most_work, most_demand, head_arrivals, work_of, demand_in, but, reach_of, Spaced, Costed, Headed};
+ghost use Rattle.windows.specs.Parts.{most_work, most_demand, head_arrivals, work_of, demand_in, but, reach_of, found, Spaced, Costed, Headed};
 
 use table::{Callback, Table};
 
@@ -21,19 +20,17 @@ pub struct Level {
     pub horizon: u32,
 }
 
-// The head of each slot's chain, for the slots below count.
-pub fn heads_of(t: Table) -> [u8; 16]
-    requires { Sound t }
-    ensures { Headed t result }
-{
-    let n = t.count;
-    let mut heads = [0u8; 16];
-    let mut i: u8 = 0;
-    while i < n {
-        heads[i as usize] = chains::head(t, i);
-        i += 1;
+impl Level {
+    // The level without slot x, which is charged apart.
+    fn without(self, x: usize) -> Level
+        requires { x < places }
+        ensures { result ≡ but self x }
+    {
+        Level {
+            below: masks::set_slot(self.below, x as u16),
+            ..self
+        }
     }
-    heads
 }
 
 // a of a head in a window of `length` ticks.
@@ -50,6 +47,7 @@ pub fn arrivals(head: Callback, length: u32) -> u32
 }
 
 // E of a callback at the arrivals of its head in a window of `length` ticks.
+#[tactic(auto, unfolding(crate::specs::Parts::work_of))]
 fn work(c: Callback, head: Callback, length: u32) -> u64
     requires { Costed c × Spaced head × (length ≤ longest) }
     ensures { (result ≡ work_of c head length) × (result ≤ most_work) }
@@ -59,112 +57,110 @@ fn work(c: Callback, head: Callback, length: u32) -> u64
     curves::cost(entries, c.used, count)
 }
 
-// The demand of a level in a window of `length` ticks, on top of what is taken from it.
-fn demand(t: Table, heads: [u8; 16], level: Level, length: u32) -> u64
-    requires { Headed t heads × (length ≤ longest) }
-    ensures { (result ≡ demand_in t level length) × (result ≤ most_demand) }
-{
-    let n = t.count as usize;
-    let mut sum: u64 = level.blocking as u64;
-    let mut i: usize = 0;
-    while i < n {
-        if !masks::test_slot(level.below, i as u16) {
-            let head = heads[i] as usize;
-            let c = t.callbacks[i];
-            let g = t.callbacks[head];
-            sum += work(c, g, length);
+// A table without faults, with the head of each slot's chain, for the slots below count.
+#[derive(Clone, Copy)]
+pub struct Chained {
+    pub table: Table,
+    pub heads: [u8; 16],
+    pub ghost headed: { Headed table heads },
+}
+
+impl Chained {
+    // The table with its heads.
+    pub fn of(t: Table) -> Chained
+        requires { Sound t }
+        ensures { result.table ≡ t }
+    {
+        let mut heads = [0u8; 16];
+        for i in 0..t.count {
+            heads[i as usize] = chains::head(t, i);
         }
-        i += 1;
+        Chained { table: t, heads }
     }
-    sum
-}
 
-// The same of a level without slot x, which is charged apart.
-fn demand_but(t: Table, heads: [u8; 16], level: Level, x: usize, length: u32) -> u64
-    requires { Headed t heads × (length ≤ longest) × (x < t.count) }
-    ensures { (result ≡ demand_in t (but level x) length) × (result ≤ most_demand) }
-{
-    let mut others = level;
-    others.below = masks::set_slot(others.below, x as u16);
-    demand(t, heads, others, length)
-}
-
-// The least length whose supply is at least a demand; for a demand above `most` the length past `most`.
-fn reach(t: Table, most: u32, demand: u64) -> u32
-    requires { Sound t × (most ≤ longest) }
-    ensures { result ≡ reach_of t most demand }
-{
-    curves::reach(
-        t.budget as u32,
-        t.period as u32,
-        t.delay as u32,
-        most,
-        demand,
-    )
-}
-
-// The least length in 1 to the horizon whose supply covers the demand of a level; 0 where there is none.
-// Demand does not fall as the length grows: where one is not covered, none is before that which supplies its demand, and there the search goes on.
-pub fn window(t: Table, heads: [u8; 16], level: Level) -> u32
-    requires { Headed t heads × (level.horizon ≤ longest) }
-    ensures { (result ≡ window_in t level) × (result ≤ longest) }
-{
-    let horizon = level.horizon;
-    let mut length: u32 = 1;
-    while length <= horizon {
-        let needed = demand(t, heads, level, length);
-        let next = reach(t, horizon, needed);
-        if next <= length {
-            return length;
+    // The demand of a level in a window of `length` ticks, on top of what is taken from it.
+    fn demand(&self, level: Level, length: u32) -> u64
+        requires { length ≤ longest }
+        ensures { (result ≡ demand_in self.now.table level length) × (result ≤ most_demand) }
+    {
+        let mut sum = level.blocking as u64;
+        for i in 0..self.table.count as usize {
+            if !masks::test_slot(level.below, i as u16) {
+                let head = self.heads[i] as usize;
+                let c = self.table.callbacks[i];
+                let g = self.table.callbacks[head];
+                sum += work(c, g, length);
+            }
         }
-        length = next;
+        sum
     }
-    0
-}
 
-// The larger of `worst` and finish - offset.
-fn worse(worst: u32, finish: u32, offset: u32) -> u32
-    ensures { result ≡ max worst (finish - offset) }
-{
-    if finish <= offset {
-        return worst;
+    // The least length whose supply is at least a demand; for a demand above `most` the length past `most`.
+    #[tactic(auto, unfolding(crate::specs::Parts::reach_of))]
+    fn reach(&self, most: u32, demand: u64) -> u32
+        requires { most ≤ longest }
+        ensures { result ≡ reach_of self.now.table most demand }
+    {
+        curves::reach(
+            self.table.budget as u32,
+            self.table.period as u32,
+            self.table.delay as u32,
+            most,
+            demand,
+        )
     }
-    if finish - offset <= worst {
-        return worst;
-    }
-    finish - offset
-}
 
-// The bound of slot x in a level: the largest F(A) - A over the offsets A below its window. F does not fall, so that each search goes on
-// from the length that the offset before found. Where no instance of x is added, F is that of the offset before, and nothing is searched.
-pub fn bound(t: Table, heads: [u8; 16], level: Level, x: usize, window: u32) -> u32
-    requires { Headed t heads × (x < t.count) × (has level.below x ≡ false) × (window ≡ window_in t level) × (window ≤ longest) }
-    ensures { (result ≡ bound_in t level x) × (result ≤ longest) }
-{
-    let head = heads[x] as usize;
-    let c = t.callbacks[x];
-    let g = t.callbacks[head];
-    let mut worst: u32 = 0;
-    let mut length: u32 = 1;
-    let mut others = demand_but(t, heads, level, x, length);
-    let mut count: u32 = 0;
-    let mut offset: u32 = 0;
-    while offset < window {
-        let charged = arrivals(g, offset + 1);
-        if charged != count {
-            count = charged;
-            let own = work(c, g, offset + 1);
-            let finish = loop {
-                let next = reach(t, window, own + others);
-                if next <= length {
-                    break length;
-                }
-                length = next;
-                others = demand_but(t, heads, level, x, length);
-            };
-            worst = worse(worst, finish, offset);
+    // The least length in 1 to the horizon whose supply covers the demand of a level.
+    // Demand does not fall as the length grows: where one is not covered, none is before that which supplies its demand, and there the search goes on.
+    pub fn window(&self, level: Level) -> Option<u32>
+        requires { level.horizon ≤ longest }
+        ensures { (result ≡ found (window_in self.now.table level)) × (window_in self.now.table level ≤ longest) }
+    {
+        let horizon = level.horizon;
+        let mut length: u32 = 1;
+        // A search by jumps: no index is counted.
+        while length <= horizon {
+            let needed = self.demand(level, length);
+            let next = self.reach(horizon, needed);
+            if next <= length {
+                return Some(length);
+            }
+            length = next;
         }
-        offset += 1;
+        None
     }
-    worst
+
+    // The bound of slot x in a level: the largest F(A) - A over the offsets A below its window. F does not fall, so that each search goes on
+    // from the length that the offset before found. Where no instance of x is added, F is that of the offset before, and nothing is searched.
+    pub fn bound(&self, level: Level, x: usize, window: u32) -> u32
+        requires { (x < self.now.table.count) × (has level.below x ≡ false) × (window ≡ window_in self.now.table level) × (window ≤ longest) }
+        ensures { (result ≡ bound_in self.now.table level x) × (result ≤ longest) }
+    {
+        let head = self.heads[x] as usize;
+        let c = self.table.callbacks[x];
+        let g = self.table.callbacks[head];
+        let rest = level.without(x);
+        let mut worst: u32 = 0;
+        let mut length: u32 = 1;
+        let mut others = self.demand(rest, length);
+        let mut count: u32 = 0;
+        for offset in 0..window {
+            let charged = arrivals(g, offset + 1);
+            if charged != count {
+                count = charged;
+                let own = work(c, g, offset + 1);
+                // A search by jumps: no index is counted.
+                let finish = loop {
+                    let next = self.reach(window, own + others);
+                    if next <= length {
+                        break length;
+                    }
+                    length = next;
+                    others = self.demand(rest, length);
+                };
+                worst = worst.max(finish.saturating_sub(offset));
+            }
+        }
+        worst
+    }
 }

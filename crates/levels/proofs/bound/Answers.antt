@@ -7,14 +7,12 @@ use Rattle.levels.proofs.bound.Goals as goal
 
 pub returns-then-overtakes : goal.returns-then-overtakes
 returns-then-overtakes c =
-    let a = c.before.before.before.before.before.args in
-    let all = c.before.before.before.before.bound_of_all-all.ensures in (
-      c.smaller.ensures ∙ ap₂ min all.0 c.before.bound_of_level-level.ensures.0 ∙ sym (bound_second a.t a.x (sym c.before.before.before.overtakes.ensures ∙ c.before.before.if-overtakes.true)),
-      omega (arith, c.smaller.ensures, all.1),
+    let all = c.bound_of_all-all.ensures in (
+      c.min.ensures ∙ ap₂ min all.0 c.bound_of_level.ensures.0 ∙ sym (bound_second c.args.t.now.table c.args.x (sym c.overtakes.ensures ∙ c.if-overtakes.true)),
+      omega (arith, c.min.ensures, all.1),
     )
 
 pub returns : goal.returns
 returns c =
-    let a = c.before.before.before.args in
-    let all = c.before.before.bound_of_all-all.ensures in
-    (all.0 ∙ sym (bound_first a.t a.x (sym c.before.overtakes.ensures ∙ c.if-overtakes.false)), all.1)
+    let all = c.bound_of_all-all.ensures in
+    (all.0 ∙ sym (bound_first c.args.t.now.table c.args.x (sym c.overtakes.ensures ∙ c.if-overtakes.false)), all.1)

@@ -9,17 +9,15 @@ use Rattle.levels.proofs.bound_of_all.Goals as goal
 
 pub bound-requires : goal.bound-requires
 bound-requires c =
-    let start = c.before in
-    let t = start.args.t in
-    let e = c.everyone-level.ensures in (
-      start.requires.0,
-      start.requires.1,
-      ap (λ (v : Level). has v.below start.args.x) e ∙ has_zero start.args.x,
-      start.requires.2 ∙ sym (ap (window_in t) e ∙ all_window t),
-      start.requires.3,
+    let t = c.args.t.now.table in
+    let e = c.everyone.ensures in (
+      c.requires.0,
+      ap (λ (v : Level). has v.below c.args.x) e ∙ has_zero c.args.x,
+      c.requires.1 ∙ sym (ap (window_in t) e ∙ all_window t),
+      c.requires.2,
     )
 
 pub returns : goal.returns
 returns c =
-    let a = c.before.before.args in
-    (c.bound.ensures.0 ∙ ap (λ (v : Level). bound_in a.t v a.x) c.before.everyone-level.ensures ∙ all_bound a.t a.x, c.bound.ensures.1)
+    let t = c.args.t.now.table in
+    (c.bound.ensures.0 ∙ ap (λ (v : Level). bound_in t v c.args.x) c.everyone.ensures ∙ all_bound t c.args.x, c.bound.ensures.1)
