@@ -11,8 +11,8 @@ ghost use Rattle.windows.specs.Parts.{found, Costed};
 ghost use Rattle.levels.specs.Levels.{overtakes as overtakes_of, lower_than, blocking_by, bound_of_level, bound_of};
 ghost use Rattle.levels.specs.Parts.{single_of};
 
-use numbers::{EDITION_ONE, TIMER};
-use table::Callback;
+use numbers::EDITION_ONE;
+use table::{Callback, Kind};
 use windows::{Chained, Level};
 
 // All callbacks.
@@ -109,7 +109,7 @@ fn overtakes(t: &Chained, x: usize) -> bool
     requires { x < t.now.table.count }
     ensures { result ≡ overtakes_of t.now.table x }
 {
-    t.table.edition == EDITION_ONE && t.table.callbacks[x].kind == TIMER
+    t.table.edition == EDITION_ONE && t.table.callbacks[x].kind == Kind::Timer as u8
 }
 
 // The number of slot x in the row.

@@ -4,16 +4,17 @@
 
 ghost use Rattle.std.specs.Prelude.{◌≡◌, ℕ, ◌≤◌, length};
 ghost use Rattle.lent.specs.Over.{over};
+ghost use Rattle.masks.specs.Parts.{some_index};
 ghost use Rattle.numbers.specs.Numbers.{places, longest};
-ghost use Rattle.table.specs.Values.{refuse};
 ghost use Rattle.rules.specs.Parts.{Sound};
 ghost use Rattle.windows.specs.Bounds.{window_of};
-ghost use Rattle.windows.specs.Parts.{Spaced, Headed};
+ghost use Rattle.windows.specs.Parts.{Spaced};
 ghost use Rattle.sheet.specs.Sheet.{bounds_to, too_many_at, sheet_of, row_of};
 ghost use Rattle.sheet.specs.Parts.{crowded_by, refused_sheet, table_sheet, table_row};
 
-use numbers::{MOST_WAITING, NO_WINDOW, PLACES, SHORT_ROW, TOO_MANY};
-use table::{Callback, Refusal, Table};
+use numbers::{MOST_WAITING, PLACES};
+use table::{Callback, Refusal, Row, Table};
+use windows::Chained;
 
 // What the analyser returns: the window, 0 where refused, and the refusal.
 #[repr(C)]
@@ -24,58 +25,43 @@ pub struct Sheet {
 }
 
 // Whether a slot is the head of its chain and more of its instances arrive in a window of that many ticks than may wait.
+#[tactic(auto, unfolding(crate::specs::Parts::crowded_by))]
 fn is_crowded(c: Callback, slot: u8, head: u8, window: u32) -> bool
     requires { (head ≡ slot → Spaced c) × (window ≤ longest) }
     ensures { result ≡ crowded_by c slot head window }
 {
-    if head != slot {
-        return false;
-    }
-    windows::arrivals(c, window) > MOST_WAITING as u32
+    head == slot && windows::arrivals(c, window) > MOST_WAITING as u32
 }
 
-// The lowest crowded head of a window, as an index; 0 where there is none.
-fn first_crowded(t: Table, heads: [u8; 16], window: u32) -> u8
-    requires { Headed t heads × (window ≤ longest) }
-    ensures { result ≡ too_many_at t window }
+// The lowest crowded head of a window, as an index.
+fn first_crowded(t: &Chained, window: u32) -> Option<u8>
+    requires { window ≤ longest }
+    ensures { result ≡ some_index (too_many_at t.now.table window) }
 {
-    let n = t.count;
-    let mut i: u8 = 0;
-    while i < n {
-        let head = heads[i as usize];
-        let c = t.callbacks[i as usize];
-        if is_crowded(c, i, head, window) {
-            return i + 1;
+    for i in 0..t.table.count {
+        let head = t.heads[i as usize];
+        if is_crowded(t.table.callbacks[i as usize], i, head, window) {
+            return Some(i + 1);
         }
-        i += 1;
     }
-    0
+    None
 }
 
 // Writes the bounds of slots 0 to count - 1 into the row's first places and keeps the others.
-fn write_bounds(t: Table, heads: [u8; 16], window: u32, row: &mut [u16])
-    requires { Headed t heads × (window ≡ window_of t) × (window ≤ longest) × (places ≤ length row.old) }
-    ensures { row.new ≡ over row.old 0 (bounds_to t t.count) }
+fn write_bounds(t: &Chained, window: u32, row: &mut [u16])
+    requires { (window ≡ window_of t.now.table) × (window ≤ longest) × (places ≤ length row.old) }
+    ensures { row.new ≡ over row.old 0 (bounds_to t.now.table t.now.table.count) }
 {
-    let n = t.count as usize;
-    let mut i: usize = 0;
-    while i < n {
-        row[i] = levels::bound(t, heads, i, window) as u16;
-        i += 1;
+    for i in 0..t.table.count as usize {
+        row[i] = levels::bound(t, i, window) as u16;
     }
 }
 
 // A refusal, with no window.
-fn refused(number: u8, index: u8) -> Sheet
-    ensures { result ≡ refused_sheet (refuse number index) }
+fn refused(refusal: Refusal) -> Sheet
+    ensures { result ≡ refused_sheet refusal }
 {
-    Sheet {
-        window: 0,
-        refusal: Refusal {
-            number: number,
-            index: index,
-        },
-    }
+    Sheet { window: 0, refusal }
 }
 
 // The sheet of a table that the reader accepted: the bounds go into the row, unless it is refused with 15 or 16.
@@ -83,22 +69,17 @@ fn sheet_of(t: Table, row: &mut [u16]) -> Sheet
     requires { Sound t × (places ≤ length row.old) }
     ensures { (result ≡ table_sheet t) × (row.new ≡ table_row t row.old) }
 {
-    let heads = windows::heads_of(t);
-    let window = levels::window(t, heads);
-    if window == 0 {
-        return refused(NO_WINDOW, 0);
+    let t = Chained::of(t);
+    let Some(window) = levels::window(&t) else {
+        return refused(Row::NoWindow.at(0));
+    };
+    if let Some(crowded) = first_crowded(&t, window) {
+        return refused(Row::TooMany.at(crowded));
     }
-    let crowded = first_crowded(t, heads, window);
-    if crowded != 0 {
-        return refused(TOO_MANY, crowded);
-    }
-    write_bounds(t, heads, window, row);
+    write_bounds(&t, window, row);
     Sheet {
         window: window as u16,
-        refusal: Refusal {
-            number: 0,
-            index: 0,
-        },
+        refusal: table::refused(0, 0),
     }
 }
 
@@ -108,12 +89,12 @@ pub fn analyse(bytes: &[u8], row: &mut [u16]) -> Sheet
     ensures { (result ≡ sheet_of bytes.now (length row.old)) × (row.new ≡ row_of bytes.now row.old) }
 {
     if row.len() < PLACES as usize {
-        return refused(SHORT_ROW, 0);
+        return refused(Row::ShortRow.at(0));
     }
     let reading = reader::read(bytes);
     let fault = reading.refusal;
     if fault.number != 0 {
-        return refused(fault.number, fault.index);
+        return refused(fault);
     }
     let t = reading.table;
     sheet_of(t, row)

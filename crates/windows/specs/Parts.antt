@@ -1,7 +1,8 @@
 -- What the search's inner functions compute, and what they may assume of a table without faults.
-use Rattle.std.specs.Prelude.{◌≡◌, Bool, List, ℕ, zero, suc, ◌+◌, ◌*◌, ◌≤◌, ◌<◌, Option, Some, None, length, get_or}
+use Rattle.std.specs.Prelude.{◌≡◌, Bool, List, ℕ, ◌+◌, ◌*◌, ◌≤◌, ◌<◌, Option, length, get_or}
 use Rattle.ranges.specs.Sum.{sum}
 use Rattle.masks.specs.Mask.{with_bit}
+use Rattle.masks.specs.Parts.{some_index}
 use Rattle.numbers.specs.Numbers.{places, entry_places, longest}
 use Rattle.curves.specs.Arrivals.{arrivals}
 use Rattle.curves.specs.Cost.{cost}
@@ -56,8 +57,7 @@ reach_of t most = reach_up_to most (reach t.budget t.period t.delay)
 
 -- a length that was searched for, where there is one: the definitions say 0 where there is none
 abbrev pub found : ℕ → Option ℕ
-found zero = None
-found (suc D) = Some (suc D)
+found = some_index
 
 -- what the curves ask of a head's record
 pub record Spaced (c : Callback) : Type 0 where

@@ -1,5 +1,5 @@
 -- `bound_of_level` meets its contract: the level that it builds is that of slot x.
-use mathlib.Core.Path.{◌≡◌, ap, ap₂, ◌∙◌}
+use mathlib.Core.Path.{ap, ◌∙◌}
 use Prim.Native.Nat.{ℕ}
 use native.Mathlib.Omega.{arith}
 use Rattle.masks.specs.Mask.{has}

@@ -1,6 +1,5 @@
 -- `window` meets its contract: that of the level of all callbacks.
 use mathlib.Core.Path.{ap, ◌∙◌}
-use Prim.Native.Nat.{ℕ}
 use native.Mathlib.Omega.{arith}
 use Rattle.windows.specs.declared.Level.{Level}
 use Rattle.windows.specs.Bounds.{window_in}

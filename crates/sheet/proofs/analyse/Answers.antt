@@ -25,7 +25,7 @@ table_read : (c : Else-fault-ne0) → c.read-reading.result.table ≡ table_at c
 table_read c = ap (λ (x : Reading). x.table) c.read-reading.ensures ∙ read_table _ (passed c)
 
 pub returns-then-row : goal.returns-then-row
-returns-then-row c = let o = short_row_lem _ _ c.if-row.true in (c.refused.ensures ∙ sym o.0, sym o.1)
+returns-then-row c = let o = short_row_lem _ _ c.if-row.true in (c.refused.ensures ∙ ap refused_sheet c.at.ensures ∙ sym o.0, sym o.1)
 
 pub returns-then-fault-ne0 : goal.returns-then-fault-ne0
 returns-then-fault-ne0 c =

@@ -58,14 +58,14 @@ work-own-requires c =
     (costed _ headed.sound _ c.requires.0, head_spaced _ _ headed _ c.requires.0, omega (arith, c.loop-offset-test.true, c.requires.3))
 
 pub demand-others-requires-in-loop-length : goal.demand-others-requires-in-loop-length
-demand-others-requires-in-loop-length c = omega (arith, within (goal.at-demand-others-requires-in-loop-length c).After-reach-next)
+demand-others-requires-in-loop-length c = omega (arith, within (goal.at.demand-others-requires-in-loop-length c).After-reach-next)
 
 pub loop-length-smaller : goal.loop-length-smaller
-loop-length-smaller c = omega (arith, c.if-next-length.false, within (goal.at-loop-length-smaller c).After-reach-next)
+loop-length-smaller c = omega (arith, c.if-next-length.false, within (goal.at.loop-length-smaller c).After-reach-next)
 
 pub loop-length-preserved : goal.loop-length-preserved
 loop-length-preserved c =
-    (omega (arith, c.if-next-length.false), (within (goal.at-loop-length-preserved c).After-reach-next).1, c.demand-others-in-loop-length.ensures.0, c.demand-others-in-loop-length.ensures.1)
+    (omega (arith, c.if-next-length.false), (within (goal.at.loop-length-preserved c).After-reach-next).1, c.demand-others-in-loop-length.ensures.0, c.demand-others-in-loop-length.ensures.1)
 
 pub loop-offset-preserved : goal.loop-offset-preserved
 loop-offset-preserved c =
