@@ -4,7 +4,7 @@
 --   folded_none                            an empty mask
 --   kept-has, kept_mask, kept_in_lem, kept_most   what is kept, as a mask; it is in the mask; most where nothing is folded
 --   kept_few                               of a timer whose beat is kept no instance waits unstarted
-use mathlib.Core.Path.{◌≡◌, sym, ap, ◌∙◌}
+use mathlib.Core.Path.{◌≡◌, refl, sym, ap, ◌∙◌}
 use mathlib.Core.Logic.{◌≢◌}
 use mathlib.Core.Bool.{Bool, true, false, not, ◌&&◌, ◌||◌, or-true, or-false}
 use mathlib.Core.List.{List}
@@ -17,7 +17,7 @@ use lib.ListN.{get_or}
 use borrow.Author.Tests.{eq-eqb, ne_eqb, ltb-false}
 use Rattle.masks.specs.Mask.{has, with_bit, without_bit, gather}
 use Rattle.masks.specs.Parts.{except}
-use Rattle.masks.proofs.Slots.{has_zero, has_with_same, has_with_other, has_without_same, has_without_other, has-except, with_lt, without_le, except_lt, mask_ext}
+use Rattle.masks.proofs.Slots.{has_zero, has_with_same, has_with_other, has_without_same, has_without_other, has-except, with_lt, except_lt, mask_ext}
 use Rattle.masks.proofs.Gather.{gather_in, gather_lt, gather_none}
 use Rattle.ranges.specs.Sum.{given, hit}
 use Rattle.ranges.proofs.SumLaws.{hit_self, hit_other}
@@ -49,31 +49,27 @@ module _ (kind waiting running slot : ℕ) where
 
 -- ---- the slots of a mask, one after the other
 
--- `rest` is still to be looked at, and `acc` has those of the others that pass
+-- those of `rest` are still to be looked at, and `acc` has those of the others that pass
 pub record Sifted (p : ℕ → Bool) (mask rest acc : ℕ) : Type 0 where
-  pub small : rest < 65536
   pub fits : acc < 65536
   pub same : (j : ℕ) → (has acc j || (has rest j && p j)) ≡ (has mask j && p j)
 
 module _ (p : ℕ → Bool) (mask : ℕ) where
-  pub sifted : mask < 65536 → Sifted p mask mask 0
-  sifted l = record { small = l; fits = omega arith; same = λ j. ap (λ (b : Bool). b || (has mask j && p j)) (has_zero j) }
+  pub sifted : (rest : ℕ) → rest ≡ mask → Sifted p mask rest 0
+  sifted rest e = record { fits = omega arith; same = λ j. rw (has_zero j, e) refl }
 
-  module _ (rest acc i r a : ℕ) (s : Sifted p mask rest acc) (e : has rest i ≡ true) (q : r ≡ without_bit rest i) where
-    fewer : r < 65536
-    fewer = omega (arith, s.small, without_le rest i)
-
+  module _ (rest acc i r : ℕ) (s : Sifted p mask rest acc) (e : has rest i ≡ true) (q : r ≡ without_bit rest i) where
     -- a slot that passes
-    pub sifted_took : i < 16 → p i ≡ true → a ≡ with_bit acc i → Sifted p mask r a
-    sifted_took l t f = record { small = fewer; fits = omega (arith, with_lt 16 acc i s.fits l); same = λ j. rw (q, f) (at j (ℕ_discrete j i)) }
+    pub sifted_took : (a : ℕ) → i < 16 → p i ≡ true → a ≡ with_bit acc i → Sifted p mask r a
+    sifted_took a l t f = record { fits = omega (arith, with_lt 16 acc i s.fits l); same = λ j. rw (q, f) (at j (ℕ_discrete j i)) }
       where
         at : (j : ℕ) → Dec (j ≡ i) → (has (with_bit acc i) j || (has (without_bit rest i) j && p j)) ≡ (has mask j && p j)
         at j (yes z) = rw (z, has_with_same acc i, t) (sym (or-true (has acc i)) ∙ (rw (e, t) at (s.same i)))
         at j (no z) = rw (has_with_other acc i j z, has_without_other rest i j z) (s.same j)
 
     -- and one that does not
-    pub sifted_left : p i ≡ false → a ≡ acc → Sifted p mask r a
-    sifted_left t f = record { small = fewer; fits = omega (arith, s.fits); same = λ j. rw (q, f) (at j (ℕ_discrete j i)) }
+    pub sifted_left : p i ≡ false → Sifted p mask r acc
+    sifted_left t = record { fits = s.fits; same = λ j. rw q (at j (ℕ_discrete j i)) }
       where
         at : (j : ℕ) → Dec (j ≡ i) → (has acc j || (has (without_bit rest i) j && p j)) ≡ (has mask j && p j)
         at j (yes z) = rw (z, has_without_same rest i, t) (rw (e, t) at (s.same i))
