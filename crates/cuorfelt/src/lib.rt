@@ -106,18 +106,15 @@ fn no_state() -> Reply
 pub extern "C" fn cuorfelt_tick(state: &mut [u8], mask: u16, supplied: u8, cost: u32) -> Reply
     ensures { (result ≡ tick_reply state.old mask supplied cost) × (state.new ≡ state_ticked state.old mask supplied cost) }
 {
-    let held = layout::unpack(&*state);
-    if !held.laid {
+    let Some(m) = layout::unpack(&*state) else {
         return no_state();
-    }
-    let m = held.machine;
+    };
     let x = m.tick_checked(mask, supplied != 0, cost);
     let outcome = x.outcome;
     let r = outcome.reply(x.started, x.polled, x.gathered, x.folded);
     if r.number != 0 {
         return r;
     }
-    let next = x.machine;
-    layout::pack_tail(state, next);
+    layout::pack_tail(state, x.machine);
     r
 }

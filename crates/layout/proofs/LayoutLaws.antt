@@ -6,10 +6,9 @@
 use mathlib.Core.Path.{◌≡◌, refl, sym, ap, ◌∙◌, ap₂}
 use mathlib.Core.Bool.{true, false}
 use mathlib.Core.Logic.{◌⊎◌, inl, inr}
-use mathlib.Core.List.{List, [], ◌∷◌, ◌++◌, append_assoc, append-nil}
-use Prim.Native.Nat.{ℕ, zero, suc, ◌≤◌, ◌<◌, ◌+◌, ◌-◌, ◌%◌}
+use mathlib.Core.List.{List, [], ◌++◌, append_assoc, append-nil}
+use Prim.Native.Nat.{ℕ, zero, suc, ◌≤◌, ◌<◌, ◌+◌, ◌-◌}
 use native.Mathlib.Omega.{arith}
-use native.Mathlib.Nat.{mod-eq_of_lt}
 use lib.Dec.{eqb}
 use lib.ListN.{length, get_or, take, drop, replicate, length-take, length-drop, take-append-drop, drop_of_length-le, get_or-eq_default, get_or-append, get_or-replicate, length-append, length-replicate, replicate-append-replicate}
 use lib.Seq.{take-add, length-take-le, get_or-take, take_all, take_at}
@@ -277,25 +276,24 @@ packed-fresh b bytes e =
 -- ---- the writes of pack_tail, field by field
 
 pub pack_parts : (b : List ℕ) (m : Machine) {b1 b2 b3 b4 b5 b6 b7 : List ℕ}
-    → length b ≡ state_length → length m.waiting ≡ places → length m.finished ≡ places → m.running < 256
+    → length b ≡ state_length → length m.waiting ≡ places → length m.finished ≡ places
     → b1 ≡ over b (field_start 0) (run 2 m.waiting)
     → b2 ≡ over b1 (field_start 1) (run 4 m.finished)
     → b3 ≡ over b2 (field_start 2) (le 4 m.clock)
     → b4 ≡ over b3 (field_start 3) (le 2 m.cache)
     → b5 ≡ over b4 (field_start 4) (le 2 m.units)
-    → b6 ≡ over b5 (field_start 5) (m.running ∷ [])
+    → b6 ≡ over b5 (field_start 5) (le 1 m.running)
     → b7 ≡ over b6 (field_start 6) (replicate spare_bytes 0)
     → b7 ≡ over b tail_start (packed_tail m)
 unfolding packed_tail over_fields run
-pack_parts b m {b5 = b5} {b6 = b6} {b7 = b7} h w f small e1 e2 e3 e4 e5 e6 e7 =
-    let byte : b6 ≡ over b5 (field_start 5) (m.running % 256 ∷ []) = e6 ∙ ap (λ (x : ℕ). over b5 (field_start 5) (x ∷ [])) (sym (mod-eq_of_lt small)) in
-    let writes : b7 ≡ over_fields tail_fields (tail_numbers m) b tail_start = simp (e7, byte, e5, e4, e3, e2, e1) in
+pack_parts b m {b7 = b7} h w f e1 e2 e3 e4 e5 e6 e7 =
+    let writes : b7 ≡ over_fields tail_fields (tail_numbers m) b tail_start = simp (e7, e6, e5, e4, e3, e2, e1) in
     writes ∙ over_fields_lem tail_fields (tail_numbers m) b tail_start (w, (f, (refl, (refl, (refl, (refl, (refl, tt))))))) (omega arith)
 
 -- ---- the reads of unpack_with
 
-pub unpack_parts : (t : Table) (b : List ℕ) {ws fs : List ℕ} {c u k : ℕ} → ws ≡ numbers 2 b (field_start 0) 0 places → fs ≡ numbers 4 b (field_start 1) 0 places
-    → c ≡ get 2 b (field_start 3) → u ≡ get 2 b (field_start 4) → k ≡ get 4 b (field_start 2)
-    → ◌≡◌ {A = Machine} (record { table = t; waiting = ws; finished = fs; cache = c; running = get_or b (field_start 5) 0; units = u; clock = k }) (machine_of t (tail_at b))
+pub unpack_parts : (t : Table) (b : List ℕ) {ws fs : List ℕ} {c r u k : ℕ} → ws ≡ numbers 2 b (field_start 0) 0 places → fs ≡ numbers 4 b (field_start 1) 0 places
+    → c ≡ get 2 b (field_start 3) → r ≡ get 1 b (field_start 5) → u ≡ get 2 b (field_start 4) → k ≡ get 4 b (field_start 2)
+    → ◌≡◌ {A = Machine} (record { table = t; waiting = ws; finished = fs; cache = c; running = r; units = u; clock = k }) (machine_of t (tail_at b))
 unfolding fields_at numbers
-unpack_parts t b ew ef ec eu ek = simp (ew, ef, ec, eu, ek)
+unpack_parts t b ew ef ec er eu ek = simp (ew, ef, ec, er, eu, ek)

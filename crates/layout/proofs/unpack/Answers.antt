@@ -1,48 +1,47 @@
 -- Each part of laid_out is tested; the table is read from its own part.
-use mathlib.Core.Path.{◌≡◌, sym, ap, ◌∙◌}
-use Prim.Native.Nat.{ℕ, ◌-◌}
-use native.Mathlib.Nat.{sub-zero}
-use lib.ListN.{take}
+use mathlib.Core.Path.{sym, ap, ◌∙◌}
 use native.Mathlib.Omega.{arith}
-use mathlib.Core.Bool.{true, not}
+use mathlib.Core.Bool.{not}
+use Rattle.std.specs.Prelude.{Some}
 use Rattle.table.specs.declared.Table.{Table}
 use Rattle.executor.specs.declared.Machine.{Machine}
-use Rattle.layout.specs.Layout.{table_end, table_part, tail_at, machine_of, unpacked}
+use Rattle.layout.specs.Layout.{tail_at, machine_of, unpacked}
 use Rattle.layout.proofs.LayoutLaws.{Laid, end_before}
-use Rattle.layout.proofs.UnpackingLaws.{not_laid_lem, is_laid, not_zero, part_number, part_table}
+use Rattle.layout.proofs.UnpackingLaws.{none_in, is_in, not_zero, part_number, part_table}
 use Rattle.layout.proofs.unpack.Goals as goal
+use Rattle.layout.proofs.unpack.Goals.{then-state-ne-STATE_LENGTH-via-then-state-ne-STATE_LENGTH, then-state-ne-STATE_LENGTH-via-else-state-ne-STATE_LENGTH+then-state-gt-PLACES}
+use Rattle.layout.proofs.unpack.Goals.{then-not-all_zero-via-then-not-all_zero, then-not-all_zero-via-else-not-all_zero+then-not-all_zero-2}
 
 pub returns-then-state-ne-STATE_LENGTH : goal.returns-then-state-ne-STATE_LENGTH
-returns-then-state-ne-STATE_LENGTH c = c.no_state.ensures ∙ not_laid_lem _ (λ l. c.if-state-ne-STATE_LENGTH.true l.size)
-
-pub returns-then-n-gt-PLACES : goal.returns-then-n-gt-PLACES
-returns-then-n-gt-PLACES c = c.no_state-then-n-gt-PLACES.ensures ∙ not_laid_lem _ (λ l. omega (arith, c.if-n-gt-PLACES.true, end_before _ l))
+returns-then-state-ne-STATE_LENGTH c =
+    none_in _ (λ l.
+    elim c.then-state-ne-STATE_LENGTH.branch [
+      | then-state-ne-STATE_LENGTH-via-then-state-ne-STATE_LENGTH w ↦ w.if-state-ne-STATE_LENGTH.true l.size
+      | then-state-ne-STATE_LENGTH-via-else-state-ne-STATE_LENGTH+then-state-gt-PLACES w ↦ omega (arith, w.if-state-gt-PLACES.true, end_before _ l)
+    ])
 
 pub returns-then-not-all_zero : goal.returns-then-not-all_zero
-returns-then-not-all_zero c = c.no_state-then-not-all_zero.ensures ∙ not_laid_lem _ (λ l. not_zero _ _ c.all_zero.ensures (ap not c.if-not-all_zero.true) l.gap)
+returns-then-not-all_zero c =
+    none_in _ (λ l.
+    elim c.then-not-all_zero.branch [
+      | then-not-all_zero-via-then-not-all_zero w ↦ not_zero _ _ c.all_zero.ensures (ap not w.if-not-all_zero.true) l.gap
+      | then-not-all_zero-via-else-not-all_zero+then-not-all_zero-2 w ↦ not_zero _ _ w.all_zero-else-not-all_zero.ensures (ap not w.if-not-all_zero-2.true) l.spare
+    ])
 
-pub returns-then-not-all_zero-2 : goal.returns-then-not-all_zero-2
-returns-then-not-all_zero-2 c = c.no_state-then-not-all_zero-2.ensures ∙ not_laid_lem _ (λ l. not_zero _ _ c.all_zero-2.ensures (ap not c.if-not-all_zero-2.true) l.spare)
-
-pub returns-then-r-ne0 : goal.returns-then-r-ne0
-returns-then-r-ne0 c =
-    let b = c.args.state.now in
-    let own : take (table_end b - 0) b ≡ table_part b = ap (λ (n : ℕ). take n b) (sub-zero (table_end b)) in
-    c.no_state-then-r-ne0.ensures ∙ not_laid_lem _ (λ l. c.if-r-ne0.true (part_number b c.read_by-reading.ensures own ∙ l.read))
+pub returns-then-reading-ne0 : goal.returns-then-reading-ne0
+returns-then-reading-ne0 c = none_in _ (λ l. c.if-reading-ne0.true (part_number c.args.state.now c.read_by-reading.ensures ∙ l.read))
 
 pub returns : goal.returns
 unfolding unpacked
 returns c =
-    let s = c in
-    let b = s.args.state.now in
+    let b = c.args.state.now in
     let read = c.read_by-reading.ensures in
-    let own : take (table_end b - 0) b ≡ table_part b = ap (λ (n : ℕ). take n b) (sub-zero (table_end b)) in
     let l : Laid b = record {
       size = c.if-state-ne-STATE_LENGTH.false;
-      read = sym (part_number b read own) ∙ c.if-r-ne0.false;
+      read = sym (part_number b read) ∙ c.if-reading-ne0.false;
       gap = sym c.all_zero.ensures ∙ c.if-not-all_zero.false;
-      spare = sym c.all_zero-2.ensures ∙ c.if-not-all_zero-2.false;
+      spare = sym c.all_zero-else-not-all_zero.ensures ∙ c.if-not-all_zero-2.false;
     } in
-    ap (λ (m : Machine). record { laid = true; machine = m })
-    (c.unpack_with-m.ensures ∙ ap (λ (t : Table). machine_of t (tail_at b)) (part_table b read own c.if-r-ne0.false))
-    ∙ sym (is_laid b l)
+    ap (λ (m : Machine). Some m)
+    (c.unpack_with.ensures ∙ ap (λ (t : Table). machine_of t (tail_at b)) (part_table b read c.if-reading-ne0.false))
+    ∙ is_in b l
