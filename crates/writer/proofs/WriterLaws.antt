@@ -6,8 +6,7 @@ use mathlib.Core.Path.{◌≡◌, refl, sym, ap, ◌∙◌}
 use mathlib.Core.Logic.{◌≢◌}
 use mathlib.Core.Bool.{Bool, true, false, cond}
 use mathlib.Core.List.{List, [], ◌∷◌, ◌++◌, append_assoc}
-use Prim.Native.Nat.{ℕ, ◌≤◌, ◌<◌, ◌+◌, ◌*◌, ◌%◌}
-use native.Mathlib.Nat.{mod-eq_of_lt}
+use Prim.Native.Nat.{ℕ, ◌≤◌, ◌<◌, ◌+◌, ◌*◌}
 use native.Mathlib.Numerals.{add-one}
 use native.Mathlib.Decide.{ℕ_discrete}
 use native.Mathlib.Omega.{arith}
@@ -33,10 +32,6 @@ use Rattle.writer.specs.declared.Written.{Written}
 use Rattle.writer.specs.Writer.{write_fault, refused_writing, write_of, buffer_after}
 use Rattle.writer.specs.Parts.{record_front}
 
--- a byte as a run of one
-byte : (x : ℕ) → x < 256 → x ∷ [] ≡ x % 256 ∷ []
-byte x h = ap (λ (y : ℕ). y ∷ []) (sym (mod-eq_of_lt h))
-
 -- ---- the header
 
 abbrev header_writes : List Field
@@ -49,9 +44,9 @@ header_parts t =
 length-header : (t : Table) → length (field_bytes header_fields (header_numbers t)) ≡ header_length
 length-header t = length_fields header_fields (header_numbers t) (refl, (refl, (refl, tt)))
 
-pub header_parts_lem : (b : List ℕ) (t : Table) {b1 b2 b3 b4 b5 b6 b7 : List ℕ} → header_length ≤ length b → t.edition < 256 → t.count < 256
-    → b1 ≡ over b 0 (t.edition ∷ [])
-    → b2 ≡ over b1 1 (t.count ∷ [])
+pub header_parts_lem : (b : List ℕ) (t : Table) {b1 b2 b3 b4 b5 b6 b7 : List ℕ} → header_length ≤ length b
+    → b1 ≡ over b 0 (le 1 t.edition)
+    → b2 ≡ over b1 1 (le 1 t.count)
     → b3 ≡ over b2 2 (le 2 t.budget)
     → b4 ≡ over b3 4 (le 2 t.period)
     → b5 ≡ over b4 6 (le 2 t.horizon)
@@ -59,10 +54,8 @@ pub header_parts_lem : (b : List ℕ) (t : Table) {b1 b2 b3 b4 b5 b6 b7 : List �
     → b7 ≡ over b6 10 (replicate 6 0)
     → b7 ≡ over b 0 (field_bytes header_fields (header_numbers t))
 unfolding over_fields field_bytes run
-header_parts_lem b t {b1 = b1} {b7 = b7} h small few e1 e2 e3 e4 e5 e6 e7 =
-    let f1 = e1 ∙ ap (over b 0) (byte t.edition small) in
-    let f2 = e2 ∙ ap (over b1 1) (byte t.count few) in
-    let writes : b7 ≡ over_fields header_writes (header_parts t) b 0 = simp (e7, e6, e5, e4, e3, f2, f1) in
+header_parts_lem b t {b7 = b7} h e1 e2 e3 e4 e5 e6 e7 =
+    let writes : b7 ≡ over_fields header_writes (header_parts t) b 0 = simp (e7, e6, e5, e4, e3, e2, e1) in
     writes ∙ over_fields_lem header_writes (header_parts t) b 0 (refl, (refl, (refl, (refl, (refl, (refl, (refl, tt))))))) (omega arith)
 
 -- ---- a record
@@ -75,28 +68,24 @@ front_parts c =
     (c.kind ∷ []) ∷ (c.next ∷ []) ∷ (c.used ∷ []) ∷ (0 ∷ []) ∷ (c.period ∷ []) ∷ (c.jitter ∷ []) ∷ (c.distance ∷ []) ∷ (0 ∷ []) ∷ []
 
 pub front_parts_lem : (b : List ℕ) (k : ℕ) (c : Callback) {b1 b2 b3 b4 b5 b6 b7 b8 : List ℕ} → k + record_length ≤ length b
-    → c.kind < 256 → c.next < 256 → c.used < 256
-    → b1 ≡ over b k (c.kind ∷ [])
-    → b2 ≡ over b1 (k + 1) (c.next ∷ [])
-    → b3 ≡ over b2 (k + 2) (c.used ∷ [])
-    → b4 ≡ over b3 (k + 3) (0 ∷ [])
+    → b1 ≡ over b k (le 1 c.kind)
+    → b2 ≡ over b1 (k + 1) (le 1 c.next)
+    → b3 ≡ over b2 (k + 2) (le 1 c.used)
+    → b4 ≡ over b3 (k + 3) (le 1 0)
     → b5 ≡ over b4 (k + 4) (le 2 c.period)
     → b6 ≡ over b5 (k + 6) (le 2 c.jitter)
     → b7 ≡ over b6 (k + 8) (le 2 c.distance)
     → b8 ≡ over b7 (k + 10) (le 2 0)
     → b8 ≡ over b k (record_front c)
 unfolding over_fields field_bytes run
-front_parts_lem b k c {b1 = b1} {b2 = b2} {b8 = b8} h known near few e1 e2 e3 e4 e5 e6 e7 e8 =
-    let f1 = e1 ∙ ap (over b k) (byte c.kind known) in
-    let f2 = e2 ∙ ap (over b1 (k + 1)) (byte c.next near) in
-    let f3 = e3 ∙ ap (over b2 (k + 2)) (byte c.used few) in
+front_parts_lem b k c {b8 = b8} h e1 e2 e3 e4 e5 e6 e7 e8 =
     let p2 : k + 1 + 1 ≡ k + 2 = omega arith in
     let p3 : k + 2 + 1 ≡ k + 3 = omega arith in
     let p4 : k + 3 + 1 ≡ k + 4 = omega arith in
     let p6 : k + 4 + 2 ≡ k + 6 = omega arith in
     let p8 : k + 6 + 2 ≡ k + 8 = omega arith in
     let p10 : k + 8 + 2 ≡ k + 10 = omega arith in
-    let writes : b8 ≡ over_fields front_writes (front_parts c) b k = simp (e8, e7, e6, e5, e4, f3, f2, f1, p2, p3, p4, p6, p8, p10) in
+    let writes : b8 ≡ over_fields front_writes (front_parts c) b k = simp (e8, e7, e6, e5, e4, e3, e2, e1, p2, p3, p4, p6, p8, p10) in
     writes ∙ over_fields_lem front_writes (front_parts c) b k (refl, (refl, (refl, (refl, (refl, (refl, (refl, (refl, tt)))))))) (omega arith)
 
 module _ (c : Callback) (es : length c.entries ≡ entry_places) where

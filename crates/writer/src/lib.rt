@@ -31,12 +31,12 @@ fn put_header(b: &mut [u8], t: Table)
     requires { header_length ≤ length b.old }
     ensures { b.new ≡ over b.old 0 (field_bytes header_fields (header_numbers t)) }
 {
-    lent::put_u8(b, 0, t.edition);
-    lent::put_u8(b, 1, t.count);
-    lent::put_u16(b, 2, t.budget);
-    lent::put_u16(b, 4, t.period);
-    lent::put_u16(b, 6, t.horizon);
-    lent::put_u16(b, 8, t.delay);
+    lent::put(b, 0, t.edition);
+    lent::put(b, 1, t.count);
+    lent::put(b, 2, t.budget);
+    lent::put(b, 4, t.period);
+    lent::put(b, 6, t.horizon);
+    lent::put(b, 8, t.delay);
     lent::zero(b, 10, 6);
 }
 
@@ -45,14 +45,14 @@ fn put_front(b: &mut [u8], at: usize, c: Callback)
     requires { at + record_length ≤ length b.old }
     ensures { b.new ≡ over b.old at (record_front c) }
 {
-    lent::put_u8(b, at, c.kind);
-    lent::put_u8(b, at + 1, c.next);
-    lent::put_u8(b, at + 2, c.used);
-    lent::put_u8(b, at + 3, 0);
-    lent::put_u16(b, at + 4, c.period);
-    lent::put_u16(b, at + 6, c.jitter);
-    lent::put_u16(b, at + 8, c.distance);
-    lent::put_u16(b, at + 10, 0);
+    lent::put(b, at, c.kind);
+    lent::put(b, at + 1, c.next);
+    lent::put(b, at + 2, c.used);
+    lent::put(b, at + 3, 0u8);
+    lent::put(b, at + 4, c.period);
+    lent::put(b, at + 6, c.jitter);
+    lent::put(b, at + 8, c.distance);
+    lent::put(b, at + 10, 0u16);
 }
 
 // Writes a record from byte `at` on.
@@ -60,9 +60,8 @@ fn put_record(b: &mut [u8], at: usize, c: Callback)
     requires { at + record_length ≤ length b.old }
     ensures { (b.new ≡ over b.old at (record_bytes c)) × (length c.entries ≡ entry_places) }
 {
-    let entries = c.entries;
     put_front(b, at, c);
-    lent::put_u16s(b, at + 12, &entries);
+    lent::put_all(b, at + 12, &c.entries);
     lent::zero(b, at + 28, 4);
 }
 
