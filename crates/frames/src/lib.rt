@@ -1,0 +1,73 @@
+// What the programs that test the library do alike: they read frames on standard input and print numbers on standard output.
+// A frame is two bytes of length, little-endian, then that many bytes, or those that are left. The end of the input ends the list, and so does a length
+// above LONGEST.
+// What is read and printed no contract can say. So all functions promise that they are safe and end, `read_up_to` that it stays within its buffer, and
+// `each` that a frame has at most LONGEST bytes.
+
+#![tactic(auto)]
+
+ghost use Rattle.std.specs.Prelude.{◌≤◌, length};
+
+// The descriptors that are read from and written to.
+const STDIN_FILENO: i32 = 0;
+
+const STDOUT_FILENO: i32 = 1;
+
+// The longest frame, and the most frames or histories in a run.
+pub const LONGEST: usize = 1024;
+
+pub const MOST: u32 = 1000000;
+
+// As many bytes of standard input as the buffer holds, or as are left.
+pub fn read_up_to(buffer: &mut [u8]) -> &mut [u8]
+    ensures { length result.now ≤ length buffer.old }
+{
+    let count = io::read_full(STDIN_FILENO, buffer);
+    &mut buffer[..count]
+}
+
+// So many bytes of standard input as an array; None where fewer are left.
+pub fn read<const N: usize>() -> Option<[u8; N]> {
+    let mut bytes = [0; N];
+    if read_up_to(&mut bytes).len() < N {
+        return None;
+    }
+    Some(bytes)
+}
+
+// Gives each frame of standard input to `report`, until that returns None.
+pub fn each<F: FnMut(&mut [u8]) -> Option<()>>(mut report: F)
+    requires { (state : F) (frame : _) → length frame.now ≤ LONGEST → F.pre state frame }
+{
+    for _ in 0..MOST {
+        let Some(two) = read::<2>() else {
+            return;
+        };
+        let length = usize::from(u16::from_le_bytes(two));
+        if length > LONGEST {
+            return;
+        }
+        let mut buffer = [0u8; LONGEST];
+        if report(read_up_to(&mut buffer[..length])).is_none() {
+            return;
+        }
+    }
+}
+
+// Prints text.
+pub fn print(text: &[u8]) {
+    io::write_all(STDOUT_FILENO, text);
+}
+
+// Prints a number.
+pub fn print_number(n: impl Into<u64>) {
+    io::print_decimal(STDOUT_FILENO, n.into());
+}
+
+// Prints numbers, a space before each.
+pub fn print_fields<T: Copy + Into<u64>>(numbers: &[T]) {
+    for x in numbers {
+        print(b" ");
+        print_number(*x);
+    }
+}
