@@ -24,11 +24,13 @@ use Rattle.table.specs.Parts.{names_of, name_one}
 
 -- ---- one record
 
-module _ (n : ℕ) (s : Names) (i : ℕ) where
-  pub name_out : n ≤ i → name_one n s (suc i) ≡ s
-  unfolding name_one
-  name_out h = rw (le-ltb i n h, name_one)
+pub name_out : (n : ℕ) (s : Names) (x : ℕ) → (x ≡ 0) ⊎ ((x ≢ 0) × (n < x)) → name_one n s x ≡ s
+unfolding name_one
+name_out n s zero h = refl
+name_out n s (suc i) (inl e) = absurd (omega arith)
+name_out n s (suc i) (inr h) = rw (le-ltb i n (omega (arith, h.1)), name_one)
 
+module _ (n : ℕ) (s : Names) (i : ℕ) where
   pub name-again : i < n → has s.once i ≡ true → name_one n s (suc i) ≡ record { once = with_bit s.once i; twice = with_bit s.twice i }
   unfolding name_one
   name-again h e = rw (lt-ltb i n h, name_one, e)
@@ -99,7 +101,7 @@ module _ (t : Table) (n : ℕ) where
             was l = gather_in (λ i. leb 1 (named_by t k i)) n j l
 
             inside : (n ≤ j) ⊎ (j < n) → (b : Bool) → leb 1 (named_by t k j) ≡ b → name_one n (names_to t n k) (suc j) ≡ names_to t n (suc k)
-            inside (inl l) b g = name_out n _ j l ∙ kept (λ i h f. omega arith)
+            inside (inl l) b g = name_out n _ (suc j) (inr (λ f. omega arith, omega arith)) ∙ kept (λ i h f. omega arith)
             inside (inr l) true g =
                 name-again n _ j l (was l ∙ g)
                 ∙ ap₂ (λ (x y : ℕ). record { once = x; twice = y })

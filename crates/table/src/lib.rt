@@ -25,10 +25,7 @@ pub struct Refusal {
 pub fn refused(number: u8, index: u8) -> Refusal
     ensures { result ≡ refuse number index }
 {
-    Refusal {
-        number: number,
-        index: index,
-    }
+    Refusal { number, index }
 }
 
 // One record: kind, next, m (how many of the cost entries are used), T, J, d, and the entries E(1) to E(8).

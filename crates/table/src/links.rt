@@ -14,26 +14,16 @@ fn name_one(names: Names, n: u8, next: u8) -> Names
     requires { n ≤ places }
     ensures { result ≡ name_one n names next }
 {
-    if next == 0 {
+    if next == 0 || next > n {
         return names;
     }
-    let slot = next - 1;
-    if slot >= n {
-        return names;
+    let slot = (next - 1) as u16;
+    let once = masks::set_slot(names.once, slot);
+    if masks::test_slot(names.once, slot) {
+        let twice = masks::set_slot(names.twice, slot);
+        return Names { once, twice };
     }
-    let bit = slot as u16;
-    let once = masks::set_slot(names.once, bit);
-    if masks::test_slot(names.once, bit) {
-        let twice = masks::set_slot(names.twice, bit);
-        return Names {
-            once: once,
-            twice: twice,
-        };
-    }
-    Names {
-        once: once,
-        twice: names.twice,
-    }
+    Names { once, ..names }
 }
 
 // The slots below count that records name, in one pass over the records.
@@ -41,13 +31,9 @@ pub fn named(t: Table) -> Names
     requires { t.count ≤ places }
     ensures { result ≡ names_of t }
 {
-    let n = t.count;
     let mut names = Names { once: 0, twice: 0 };
-    let mut i: u8 = 0;
-    while i < n {
-        let c = t.callbacks[i as usize];
-        names = name_one(names, n, c.next);
-        i += 1;
+    for c in &t.callbacks[..t.count as usize] {
+        names = name_one(names, t.count, c.next);
     }
     names
 }
@@ -57,8 +43,7 @@ pub fn heads(t: Table) -> u16
     requires { t.count ≤ places }
     ensures { result ≡ gather (is_head t) t.count }
 {
-    let names = named(t);
-    masks::others(t.count, names.once)
+    masks::others(t.count, named(t).once)
 }
 
 // The callback that the completion of an index activates; 0 where the index is, and where its chain ends.
@@ -69,8 +54,7 @@ pub fn next_after(t: Table, index: u8) -> u8
     if index == 0 {
         return 0;
     }
-    let c = t.callbacks[(index - 1) as usize];
-    c.next
+    t.callbacks[(index - 1) as usize].next
 }
 
 // The lowest bit of the mask that belongs to no head, plus 1; 0 where there is none.

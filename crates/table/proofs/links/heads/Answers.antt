@@ -8,5 +8,5 @@ use Rattle.table.proofs.links.heads.Goals as goal
 
 pub returns : goal.returns
 returns c =
-    let t = c.before.before.args.t in
-    c.others.ensures ∙ ap (λ (s : Names). except (2 ^ t.count - 1) s.once) c.before.named-names.ensures ∙ heads_law t
+    let t = c.args.t in
+    c.others.ensures ∙ ap (λ (s : Names). except (2 ^ t.count - 1) s.once) c.named.ensures ∙ heads_law t

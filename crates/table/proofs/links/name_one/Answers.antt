@@ -7,25 +7,18 @@ use Rattle.table.proofs.NamedLaws.{name_out, name-again, name-first}
 use Rattle.table.proofs.links.name_one.Goals as goal
 
 pub returns-then-next-eq0 : goal.returns-then-next-eq0
-unfolding name_one
-returns-then-next-eq0 c = sym (ap (name_one c.before.args.n c.before.args.names) c.if-next-eq0.true)
-
-pub returns-then-slot-n : goal.returns-then-slot-n
-returns-then-slot-n c =
-    let a = c.before.before.args in
-    let e : a.next ≡ suc (a.next - 1) = omega arith in
-    sym (ap (name_one a.n a.names) e ∙ name_out _ _ _ c.if-slot-n.true)
+returns-then-next-eq0 c = sym (name_out c.args.n c.args.names c.args.next c.then-next-eq0.either)
 
 pub returns-then-test_slot : goal.returns-then-test_slot
 returns-then-test_slot c =
-    let a = c.before.before.before.before.before.before.args in
+    let a = c.args in
     let e : a.next ≡ suc (a.next - 1) = omega arith in
-    simp (c.before.before.before.set_slot-once.ensures, c.set_slot-twice.ensures)
-    (sym (ap (name_one a.n a.names) e ∙ name-again _ _ _ c.before.before.before.before.if-slot-n.false (sym c.before.before.test_slot.ensures ∙ c.before.if-test_slot.true)))
+    simp (c.set_slot-once.ensures, c.set_slot-twice.ensures)
+    (sym (ap (name_one a.n a.names) e ∙ name-again _ _ _ (omega arith) (sym c.test_slot.ensures ∙ c.if-test_slot.true)))
 
 pub returns : goal.returns
 returns c =
-    let a = c.before.before.before.before.before.args in
+    let a = c.args in
     let e : a.next ≡ suc (a.next - 1) = omega arith in
-    simp c.before.before.set_slot-once.ensures
-    (sym (ap (name_one a.n a.names) e ∙ name-first _ _ _ c.before.before.before.if-slot-n.false (sym c.before.test_slot.ensures ∙ c.if-test_slot.false)))
+    simp c.set_slot-once.ensures
+    (sym (ap (name_one a.n a.names) e ∙ name-first _ _ _ (omega arith) (sym c.test_slot.ensures ∙ c.if-test_slot.false)))
