@@ -4,7 +4,9 @@
 #![tactic(auto)]
 
 ghost use Rattle.std.specs.Prelude.{◌≡◌, Bool, ℕ};
-ghost use Rattle.answers.specs.Outcome.{finished_of, flag, reply_of};
+ghost use Rattle.answers.specs.Outcome.{finished_of, reply_of};
+
+use table::Refusal;
 
 // The four answers; those that name a callback say its index and the instance, both from 1.
 #[derive(Clone, Copy)]
@@ -15,12 +17,8 @@ pub enum Answer {
     Finished(u8, u32),
 }
 
-// A tick is refused, or answered.
-#[derive(Clone, Copy)]
-pub enum Outcome {
-    Refused(table::Refusal),
-    Answered(Answer),
-}
+// A tick is answered, or refused.
+pub type Outcome = Result<Answer, Refusal>;
 
 // The reply of a tick: the refusal's number and index, the answer (0 refused, 1 no supply, 2 idle, 3 ran, 4 finished) with
 // its callback and instance, flags for a start and for a polling point, with the number of callbacks that it put in the cache, and the mask
@@ -39,71 +37,52 @@ pub struct Reply {
     pub folded: u16,
 }
 
-// 1 or 0.
-fn flagged(b: bool) -> u8
-    ensures { result ≡ flag b }
+// The callback whose instance finished, an index from 1; 0 where none did.
+pub fn finished(outcome: Outcome) -> u8
+    ensures { result ≡ finished_of outcome }
 {
-    if b {
-        return 1;
+    match outcome {
+        Ok(Answer::Finished(i, _)) => i,
+        _ => 0,
     }
-    0
 }
 
-impl Outcome {
-    // The callback whose instance finished, an index from 1; 0 where none did.
-    pub fn finished(self) -> u8
-        ensures { result ≡ finished_of self }
+impl Reply {
+    // The reply of an outcome, with what stands beside it.
+    pub fn new(outcome: Outcome, started: bool, polled: bool, gathered: u8, folded: u16) -> Reply
+        ensures { result ≡ reply_of outcome started polled gathered folded }
     {
-        match self {
-            Outcome::Refused(_) => 0,
-            Outcome::Answered(a) => match a {
-                Answer::NoSupply => 0,
-                Answer::Idle => 0,
-                Answer::Ran(_, _) => 0,
-                Answer::Finished(i, _) => i,
-            },
-        }
-    }
-
-    // The reply, with what stands beside the outcome.
-    pub fn reply(self, started: bool, polled: bool, gathered: u8, folded: u16) -> Reply
-        ensures { result ≡ reply_of self started polled gathered folded }
-    {
-        let mut r = Reply {
+        let base = Reply {
             instance: 0,
             number: 0,
             index: 0,
             answer: 0,
             callback: 0,
-            started: flagged(started),
-            polled: flagged(polled),
-            gathered: gathered,
-            folded: folded,
+            started: u8::from(started),
+            polled: u8::from(polled),
+            gathered,
+            folded,
         };
-        match self {
-            Outcome::Refused(why) => {
-                r.number = why.number;
-                r.index = why.index;
-            }
-            Outcome::Answered(a) => match a {
-                Answer::NoSupply => {
-                    r.answer = 1;
-                }
-                Answer::Idle => {
-                    r.answer = 2;
-                }
-                Answer::Ran(i, k) => {
-                    r.answer = 3;
-                    r.callback = i;
-                    r.instance = k;
-                }
-                Answer::Finished(i, k) => {
-                    r.answer = 4;
-                    r.callback = i;
-                    r.instance = k;
-                }
+        match outcome {
+            Err(why) => Reply {
+                number: why.number,
+                index: why.index,
+                ..base
+            },
+            Ok(Answer::NoSupply) => Reply { answer: 1, ..base },
+            Ok(Answer::Idle) => Reply { answer: 2, ..base },
+            Ok(Answer::Ran(callback, instance)) => Reply {
+                answer: 3,
+                callback,
+                instance,
+                ..base
+            },
+            Ok(Answer::Finished(callback, instance)) => Reply {
+                answer: 4,
+                callback,
+                instance,
+                ..base
             },
         }
-        r
     }
 }

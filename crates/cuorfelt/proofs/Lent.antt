@@ -10,6 +10,7 @@ use native.Mathlib.Omega.{arith}
 use lib.Dec.{eqb}
 use lib.ListN.{length, get_or, get_or-replicate}
 use borrow.Author.Tests.{eqb-false}
+use Rattle.std.specs.Prelude.{Err, Ok}
 use Rattle.numbers.specs.Numbers.{places, most_ticks, most_waiting}
 use Rattle.folding.specs.Folding.{kept}
 use Rattle.ranges.proofs.EveryLaws.{or_fails}
@@ -19,10 +20,8 @@ use Rattle.reader.specs.Format.{read_fault, table_at}
 use Rattle.reader.proofs.Accepted.{read_table}
 use Rattle.reader.proofs.WrittenLaws.{Writable, writable_read}
 use Rattle.answers.specs.declared.Answer.TheVariants.{NoSupply, Idle, Ran, Finished}
-use Rattle.answers.specs.declared.Outcome.{Outcome}
-use Rattle.answers.specs.declared.Outcome.TheVariants.{Refused, Answered}
 use Rattle.answers.specs.declared.Reply.{Reply}
-use Rattle.answers.specs.Outcome.{flag, reply_of}
+use Rattle.answers.specs.Outcome.{Outcome, flag, reply_of}
 use Rattle.executor.specs.declared.Machine.{Machine}
 use Rattle.executor.specs.declared.Ticked.{Ticked}
 use Rattle.executor.specs.State.{fresh, faulty, state_fault}
@@ -46,11 +45,11 @@ use Rattle.cuorfelt.proofs.EdgeLaws.{start_new}
 
 pub outcome_back : (o : Outcome) (started polled : Bool) (gathered folded : ℕ) → outcome_in (reply_of o started polled gathered folded) ≡ o
 unfolding outcome_in reply_of
-outcome_back (Refused r) started polled gathered folded = refl
-outcome_back (Answered NoSupply) started polled gathered folded = refl
-outcome_back (Answered Idle) started polled gathered folded = refl
-outcome_back (Answered (Ran i k)) started polled gathered folded = refl
-outcome_back (Answered (Finished i k)) started polled gathered folded = refl
+outcome_back (Err r) started polled gathered folded = refl
+outcome_back (Ok NoSupply) started polled gathered folded = refl
+outcome_back (Ok Idle) started polled gathered folded = refl
+outcome_back (Ok (Ran i k)) started polled gathered folded = refl
+outcome_back (Ok (Finished i k)) started polled gathered folded = refl
 
 pub flag_back : (b : Bool) → is_set (flag b) ≡ b
 flag_back true = refl

@@ -1,9 +1,8 @@
 -- What a start and a tick on lent bytes give, and what the bytes hold then, for every input (document 01, 'Where each form goes', the edge
 -- for C). The reader's edge gives read_fault, the normaliser's normalise_fault and normalised, and the analyser's sheet_of and row_of, as they stand.
-use Rattle.std.specs.Prelude.{Bool, true, false, not, List, ℕ, eqb, length}
+use Rattle.std.specs.Prelude.{Bool, true, false, not, List, ℕ, eqb, length, Err}
 use Rattle.table.specs.declared.Refusal.{Refusal}
 use Rattle.table.specs.Values.{refuse}
-use Rattle.answers.specs.declared.Outcome.TheVariants.{Refused}
 use Rattle.answers.specs.declared.Reply.{Reply}
 use Rattle.executor.specs.declared.Ticked.{Ticked}
 use Rattle.numbers.specs.Numbers.{faulty_state}
@@ -26,7 +25,7 @@ reply_to x = reply_of x.outcome x.started x.polled x.gathered x.folded
 
 -- where the bytes have another length, or are not laid out as a state: row 29
 unfoldable pub no_state : Reply
-no_state = reply_of (Refused (refuse faulty_state 0)) false false 0 0
+no_state = reply_of (Err (refuse faulty_state 0)) false false 0 0
 
 -- a flag as C has it: 0, or anything else
 abbrev pub is_set : ℕ → Bool

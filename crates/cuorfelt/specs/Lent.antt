@@ -1,10 +1,9 @@
 -- A history whose state is handed on in the lent bytes (document 01, 'A history'), and the outcome that a reply's numbers stand for.
-use Rattle.std.specs.Prelude.{cond, List, [], ◌∷◌, ℕ, eqb}
+use Rattle.std.specs.Prelude.{cond, List, [], ◌∷◌, ℕ, eqb, Err, Ok}
 use Rattle.table.specs.Values.{refuse}
 use Rattle.answers.specs.declared.Answer.TheVariants.{NoSupply, Idle, Ran, Finished}
-use Rattle.answers.specs.declared.Outcome.{Outcome}
-use Rattle.answers.specs.declared.Outcome.TheVariants.{Refused, Answered}
 use Rattle.answers.specs.declared.Reply.{Reply}
+use Rattle.answers.specs.Outcome.{Outcome}
 use Rattle.cuorfelt.specs.Edge.{tick_reply, state_ticked}
 
 -- a tick of a history, as a host passes it
@@ -22,8 +21,8 @@ replies_in state (x ∷ h) =
 -- the outcome that a reply's numbers stand for
 unfoldable pub outcome_in : Reply → Outcome
 outcome_in r =
-    cond (eqb r.answer 1) (Answered NoSupply)
-    (cond (eqb r.answer 2) (Answered Idle)
-    (cond (eqb r.answer 3) (Answered (Ran r.callback r.instance))
-    (cond (eqb r.answer 4) (Answered (Finished r.callback r.instance))
-    (Refused (refuse r.number r.index)))))
+    cond (eqb r.answer 1) (Ok NoSupply)
+    (cond (eqb r.answer 2) (Ok Idle)
+    (cond (eqb r.answer 3) (Ok (Ran r.callback r.instance))
+    (cond (eqb r.answer 4) (Ok (Finished r.callback r.instance))
+    (Err (refuse r.number r.index)))))

@@ -12,11 +12,10 @@ ghost use Rattle.sheet.specs.Sheet.{sheet_of, row_of};
 ghost use Rattle.layout.specs.Layout.{state_length};
 ghost use Rattle.cuorfelt.specs.Edge.{start_fault, state_started, no_state, tick_reply, state_ticked};
 
-use answers::{Outcome, Reply};
+use answers::Reply;
 use layout::offsets::STATE_LENGTH;
-use numbers::FAULTY_STATE;
 use sheet::Sheet;
-use table::Refusal;
+use table::{Refusal, Row};
 use writer::Written;
 
 // The length of a state in bytes.
@@ -80,7 +79,7 @@ pub extern "C" fn cuorfelt_start(table: &[u8], state: &mut [u8]) -> Refusal
     ensures { (result ≡ start_fault table.now state.old) × (state.new ≡ state_started table.now state.old) }
 {
     if state.len() != STATE_LENGTH {
-        return table::refused(FAULTY_STATE, 0);
+        return Row::FaultyState.at(0);
     }
     let started = executor::Machine::start(table);
     let why = started.refusal;
@@ -97,8 +96,7 @@ pub extern "C" fn cuorfelt_start(table: &[u8], state: &mut [u8]) -> Refusal
 fn no_state() -> Reply
     ensures { result ≡ no_state }
 {
-    let why = Outcome::Refused(table::refused(FAULTY_STATE, 0));
-    why.reply(false, false, 0, 0)
+    Reply::new(Err(Row::FaultyState.at(0)), false, false, 0, 0)
 }
 
 // One tick on the state in the lent bytes; a refusal leaves them as they were. Supplied is 0, or anything else.
@@ -110,8 +108,7 @@ pub extern "C" fn cuorfelt_tick(state: &mut [u8], mask: u16, supplied: u8, cost:
         return no_state();
     };
     let x = m.tick_checked(mask, supplied != 0, cost);
-    let outcome = x.outcome;
-    let r = outcome.reply(x.started, x.polled, x.gathered, x.folded);
+    let r = Reply::new(x.outcome, x.started, x.polled, x.gathered, x.folded);
     if r.number != 0 {
         return r;
     }

@@ -12,6 +12,7 @@ use native.Mathlib.Nat.{zero-add, zero-mul}
 use native.Mathlib.Omega.{arith}
 use lib.Dec.{eqb}
 use borrow.Author.Tests.{ne_eqb}
+use Rattle.std.specs.Prelude.{Ok}
 use Rattle.masks.specs.Mask.{has}
 use Rattle.ranges.specs.Sum.{given, hit}
 use Rattle.ranges.proofs.SumLaws.{hit-none}
@@ -20,7 +21,6 @@ use Rattle.rules.specs.Parts.{Sound}
 use Rattle.numbers.specs.Numbers.{timer, client, places, most_waiting, longest}
 use Rattle.table.specs.Values.{kind_of}
 use Rattle.priority.specs.Priority.{precedes}
-use Rattle.answers.specs.declared.Outcome.TheVariants.{Answered}
 use Rattle.answers.specs.Outcome.{finished_of}
 use Rattle.turns.specs.declared.Choice.{Choice}
 use Rattle.turns.specs.declared.Turn.{Turn}
@@ -148,9 +148,9 @@ module _ (m : Machine) (cost : ℕ) (ok : Admissible (most_waiting + 1) m cost) 
       go (suc i) q = (completes i q).inside
 
 -- and whoever finishes has it
-pub finisher : (x : Turn) (k i : ℕ) → finished_of (Answered (step_of x k).answer) ≡ suc i → x.chosen ≡ suc i
+pub finisher : (x : Turn) (k i : ℕ) → finished_of (Ok (step_of x k).answer) ≡ suc i → x.chosen ≡ suc i
 finisher x k i =
-    step_cases x k (λ s. finished_of (Answered s.answer) ≡ suc i → x.chosen ≡ suc i)
+    step_cases x k (λ s. finished_of (Ok s.answer) ≡ suc i → x.chosen ≡ suc i)
     (λ z e. absurd (omega arith))
     (λ j q u e. q ∙ e)
     (λ j q u e. absurd (omega arith))

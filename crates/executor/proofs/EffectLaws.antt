@@ -10,8 +10,8 @@ use mathlib.Core.List.{List}
 use Prim.Native.Nat.{ℕ, zero, suc, ◌+◌, ◌-◌}
 use native.Mathlib.Omega.{arith}
 use lib.ListN.{set}
+use Rattle.std.specs.Prelude.{Ok}
 use Rattle.table.specs.Links.{next_after}
-use Rattle.answers.specs.declared.Outcome.TheVariants.{Answered}
 use Rattle.answers.specs.Outcome.{finished_of}
 use Rattle.turns.specs.declared.Step.{Step}
 use Rattle.turns.specs.declared.Turn.{Turn}
@@ -45,10 +45,10 @@ module _ (m : Machine) where
       slot : suc i - 1 ≡ i
       slot = omega arith
 
-  pub after_law : (folded : ℕ) (x : Turn) (s : Step) (f : ℕ) (a : Machine) → f ≡ finished_of (Answered s.answer) → a ≡ completed_by m f
+  pub after_law : (folded : ℕ) (x : Turn) (s : Step) (f : ℕ) (a : Machine) → f ≡ finished_of (Ok s.answer) → a ≡ completed_by m f
       → record {
         machine = record { table = a.table; waiting = a.waiting; finished = a.finished; cache = s.cache; running = s.running; units = s.units; clock = m.clock + 1 };
-        outcome = Answered s.answer;
+        outcome = Ok s.answer;
         started = x.started;
         polled = x.polled;
         gathered = x.gathered;

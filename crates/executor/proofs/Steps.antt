@@ -10,6 +10,7 @@ use native.Mathlib.Decide.{ℕ_discrete}
 use native.Mathlib.Omega.{arith}
 use lib.Dec.{eqb}
 use lib.ListN.{get_or}
+use Rattle.std.specs.Prelude.{Ok}
 use Rattle.masks.specs.Mask.{has, without_bit}
 use Rattle.masks.proofs.Slots.{has_without_same, has_without_other}
 use Rattle.ranges.specs.Sum.{sum, given, hit}
@@ -22,7 +23,6 @@ use Rattle.table.specs.Links.{next_after, foreign}
 use Rattle.priority.specs.Priority.{precedes}
 use Rattle.rules.specs.Parts.{Sound}
 use Rattle.answers.specs.declared.Answer.{Answer}
-use Rattle.answers.specs.declared.Outcome.TheVariants.{Answered}
 use Rattle.answers.specs.Outcome.{callback_of, instance_of, finished_of}
 use Rattle.queues.specs.Queues.{counted, completed}
 use Rattle.queues.proofs.QueueLaws.{counted-length, counted_at, completed-length, completed_at}
@@ -63,7 +63,7 @@ pub record Stepped (t : Table) (m : Machine) (mask : ℕ) (supplied : Bool) (cos
   -- where an unpolled callback waits after the arrivals, whoever starts is it or has the higher priority
   pub urgent : (i j : ℕ) → i < t.count → 0 < waiting_of m i + given (kept mask o.folded i) 1 → is_polled t i ≡ false
       → o.started ≡ true → callback_of o.outcome ≡ suc j → i ≢ j → precedes t j i ≡ true
-  pub answers : (y : Answer) × (o.outcome ≡ Answered y)
+  pub answers : (y : Answer) × (o.outcome ≡ Ok y)
 
 module _ (m : Machine) (ok : Valid m) (mask cost : ℕ) (priced : (1 ≤ cost) × (cost ≤ longest)) (heads : foreign m.table mask ≡ 0) where
   abbrev t : Table

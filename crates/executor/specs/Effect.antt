@@ -1,11 +1,9 @@
 -- The effect of one tick, steps 1 to 4 of document 01, over unbounded counts; the refusals stand in front of it (Tick).
-use Rattle.std.specs.Prelude.{Bool, true, false, List, ℕ, zero, suc, ◌+◌, get_or}
+use Rattle.std.specs.Prelude.{Bool, true, false, List, ℕ, zero, suc, ◌+◌, get_or, Ok}
 use Rattle.table.specs.declared.Table.{Table}
 use Rattle.table.specs.Values.{next_of}
 use Rattle.answers.specs.declared.Answer.TheVariants.{NoSupply}
-use Rattle.answers.specs.declared.Outcome.{Outcome}
-use Rattle.answers.specs.declared.Outcome.TheVariants.{Answered}
-use Rattle.answers.specs.Outcome.{finished_of}
+use Rattle.answers.specs.Outcome.{Outcome, finished_of}
 use Rattle.queues.specs.Queues.{arrived, counted, completed}
 use Rattle.folding.specs.Folding.{folded_of, kept_of}
 use Rattle.turns.specs.declared.Step.{Step}
@@ -37,7 +35,7 @@ unfoldable pub unsupplied : Machine → ℕ → Ticked
 unsupplied m folded =
     record {
       machine = after m m.waiting m.finished m.cache m.running m.units;
-      outcome = Answered NoSupply;
+      outcome = Ok NoSupply;
       started = false;
       polled = false;
       gathered = 0;
@@ -61,7 +59,7 @@ left t (suc i) ws = completed i (next_of t i) ws
 -- what a tick gives after step 4, with those folded
 abbrev pub ticked : Machine → ℕ → Turn → Step → Ticked
 ticked m folded x s =
-    let o : Outcome = Answered s.answer in
+    let o : Outcome = Ok s.answer in
     record {
       machine = after m (left m.table (finished_of o) m.waiting) (counted (finished_of o) m.finished) s.cache s.running s.units;
       outcome = o;

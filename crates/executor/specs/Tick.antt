@@ -1,16 +1,14 @@
 -- The tick: the first refusal that applies, 29, 18, 19, 20, 21, or the effect.
-use Rattle.std.specs.Prelude.{Bool, true, false, ℕ, eqb, leb}
+use Rattle.std.specs.Prelude.{Bool, true, false, ℕ, eqb, leb, Err}
 use Rattle.table.specs.declared.Refusal.{Refusal}
 use Rattle.table.specs.declared.Table.{Table}
 use Rattle.table.specs.Values.{refuse, accepted, lowest_refused}
 use Rattle.table.specs.Links.{next_after, foreign}
 use Rattle.executor.specs.declared.Machine.{Machine}
-use Rattle.answers.specs.declared.Outcome.{Outcome}
-use Rattle.answers.specs.declared.Outcome.TheVariants.{Refused}
 use Rattle.executor.specs.declared.Ticked.{Ticked}
 use Rattle.numbers.specs.Numbers
 use Rattle.queues.specs.Queues.{full_with}
-use Rattle.answers.specs.Outcome.{finished_of}
+use Rattle.answers.specs.Outcome.{Outcome, finished_of}
 use Rattle.executor.specs.State.{faulty}
 use Rattle.executor.specs.Effect.{kept_in, effect}
 use Rattle.ranges.specs.Every.{within}
@@ -39,7 +37,7 @@ tick_fault m mask supplied cost =
 
 -- a refused tick: the state stays, and beside the refusal nothing starts, is polled, gathered or folded
 unfoldable pub refused : Machine → Refusal → Ticked
-refused m r = record { machine = m; outcome = Refused r; started = false; polled = false; gathered = 0; folded = 0 }
+refused m r = record { machine = m; outcome = Err r; started = false; polled = false; gathered = 0; folded = 0 }
 
 -- the tick
 unfoldable pub tick_of : Machine → ℕ → Bool → ℕ → Ticked

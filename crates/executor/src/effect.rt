@@ -1,8 +1,7 @@
 // The effect of a tick that nothing refuses: steps 1 to 4 in turn.
 
-ghost use Rattle.std.specs.Prelude.{◌≡◌, ℕ, suc, ◌+◌, ◌≤◌, ◌<◌};
+ghost use Rattle.std.specs.Prelude.{◌≡◌, ℕ, suc, ◌+◌, ◌≤◌, ◌<◌, Ok};
 ghost use Rattle.numbers.specs.Numbers.{places, most_ticks, most_waiting};
-ghost use Rattle.answers.specs.declared.Outcome.TheVariants.{Answered};
 ghost use Rattle.answers.specs.Outcome.{finished_of};
 ghost use Rattle.table.specs.Links.{foreign};
 ghost use Rattle.executor.specs.State.{finished_at};
@@ -10,7 +9,7 @@ ghost use Rattle.executor.specs.Effect.{folded_in, arrive, unsupplied, instance_
 ghost use Rattle.executor.specs.Parts.{Room, Admissible, Completes, completed_by};
 
 use super::{Machine, Ticked};
-use answers::{Answer, Outcome};
+use answers::{Answer, finished};
 use queues::arrivals::complete;
 use table::links::next_after;
 use turns::steps::{step, turn};
@@ -24,9 +23,7 @@ impl Machine {
         if mask == 0 {
             return 0;
         }
-        let t = self.table;
-        let counts = self.waiting;
-        folding::folded(t, counts, self.running, mask)
+        folding::folded(self.table, self.waiting, self.running, mask)
     }
 
     // Step 1: the state with the arrivals that are kept of the mask, those folded being known.
@@ -34,11 +31,8 @@ impl Machine {
         requires { (Room most_waiting self) × (folded ≡ folded_in self mask) }
         ensures { result ≡ arrive self mask }
     {
-        let mut m = self;
-        let counts = m.waiting;
-        let arrived = queues::arrivals::arrive(counts, masks::outside(mask, folded));
-        m.waiting = arrived;
-        m
+        let waiting = queues::arrivals::arrive(self.waiting, masks::outside(mask, folded));
+        Machine { waiting, ..self }
     }
 
     // Step 2: a tick without supply ends with the arrivals.
@@ -46,15 +40,16 @@ impl Machine {
         requires { self.clock < most_ticks }
         ensures { result ≡ unsupplied self folded }
     {
-        let mut m = self;
-        m.clock = m.clock + 1;
         Ticked {
-            machine: m,
-            outcome: Outcome::Answered(Answer::NoSupply),
+            machine: Machine {
+                clock: self.clock + 1,
+                ..self
+            },
+            outcome: Ok(Answer::NoSupply),
             started: false,
             polled: false,
             gathered: 0,
-            folded: folded,
+            folded,
         }
     }
 
@@ -77,37 +72,33 @@ impl Machine {
         if index == 0 {
             return self;
         }
-        let t = self.table;
-        let next = next_after(t, index);
-        let instance = self.instance(index);
         let slot = index - 1;
+        let next = next_after(self.table, index);
         let mut m = self;
-        let counts = m.waiting;
-        m.waiting = complete(counts, slot, next);
-        m.finished[slot as usize] = instance;
+        m.finished[slot as usize] = self.instance(index);
+        m.waiting = complete(self.waiting, slot, next);
         m
     }
 
     // What the tick gives after step 4.
     fn after(self, folded: u16, x: Turn, s: Step) -> Ticked
-        requires { (self.clock < most_ticks) × ((i : ℕ) → finished_of (Answered s.answer) ≡ suc i → Completes self i) }
+        requires { (self.clock < most_ticks) × ((i : ℕ) → finished_of (Ok s.answer) ≡ suc i → Completes self i) }
         ensures { result ≡ ticked self folded x s }
     {
-        let answer = s.answer;
-        let outcome = Outcome::Answered(answer);
-        let clock = self.clock + 1;
-        let mut m = self.completed(outcome.finished());
-        m.cache = s.cache;
-        m.running = s.running;
-        m.units = s.units;
-        m.clock = clock;
+        let outcome = Ok(s.answer);
         Ticked {
-            machine: m,
-            outcome: outcome,
+            machine: Machine {
+                cache: s.cache,
+                running: s.running,
+                units: s.units,
+                clock: self.clock + 1,
+                ..self.completed(finished(outcome))
+            },
+            outcome,
             started: x.started,
             polled: x.polled,
             gathered: x.gathered,
-            folded: folded,
+            folded,
         }
     }
 
@@ -116,9 +107,14 @@ impl Machine {
         requires { Admissible (most_waiting + 1) self cost }
         ensures { result ≡ served self folded cost }
     {
-        let t = self.table;
-        let counts = self.waiting;
-        let x = turn(t, counts, self.cache, self.running, self.units, cost);
+        let x = turn(
+            self.table,
+            self.waiting,
+            self.cache,
+            self.running,
+            self.units,
+            cost,
+        );
         let s = step(x, self.instance(x.chosen));
         self.after(folded, x, s)
     }

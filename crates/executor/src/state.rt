@@ -11,12 +11,14 @@ impl Machine {
     pub(crate) fn state_fault(self) -> bool
         ensures { result ≡ state_fault self }
     {
-        let t = self.table;
-        if run_fault(t.count, self.running, self.units) {
-            return true;
-        }
-        let waiting = self.waiting;
-        let finished = self.finished;
-        slots_fault(t, self.cache, self.running, waiting, finished, self.clock)
+        run_fault(self.table.count, self.running, self.units)
+            || slots_fault(
+                self.table,
+                self.cache,
+                self.running,
+                self.waiting,
+                self.finished,
+                self.clock,
+            )
     }
 }

@@ -1,32 +1,28 @@
 // One tick: the first refusal that applies, 29, 18, 19, 20, 21, or the effect.
 
-ghost use Rattle.std.specs.Prelude.{◌≡◌, false, ℕ};
+ghost use Rattle.std.specs.Prelude.{◌≡◌, false};
 ghost use Rattle.numbers.specs.Numbers.{most_waiting};
-ghost use Rattle.table.specs.Values.{refuse};
 ghost use Rattle.table.specs.Links.{foreign};
 ghost use Rattle.faults.specs.Faults.{table_fault};
 ghost use Rattle.executor.specs.Tick.{refused, tick_of};
 ghost use Rattle.executor.specs.Parts.{Admissible, admitted};
 
 use super::{Machine, Ticked};
-use answers::Outcome;
+use answers::finished;
 use faults::table_fault;
-use numbers::{FAULTY_STATE, LONGEST, MOST_TICKS, NOT_A_HEAD, QUEUE_FULL, TICKS_SPENT, WRONG_COST};
+use numbers::{LONGEST, MOST_TICKS};
 use queues::full::full_with;
-use table::Refusal;
 use table::links::{first_foreign, next_after};
+use table::{Refusal, Row};
 
 impl Machine {
     // A refused tick: the state stays.
-    fn refuse(self, number: u8, index: u8) -> Ticked
-        ensures { result ≡ refused self (refuse number index) }
+    fn refuse(self, why: Refusal) -> Ticked
+        ensures { result ≡ refused self why }
     {
         Ticked {
             machine: self,
-            outcome: Outcome::Refused(Refusal {
-                number: number,
-                index: index,
-            }),
+            outcome: Err(why),
             started: false,
             polled: false,
             gathered: 0,
@@ -40,13 +36,10 @@ impl Machine {
         ensures { result ≡ admitted self mask supplied cost }
     {
         let ticked = self.effect(mask, supplied, cost);
-        let outcome = ticked.outcome;
-        let t = self.table;
-        let next = next_after(t, outcome.finished());
-        let counts = self.waiting;
-        let full = full_with(counts, masks::outside(mask, ticked.folded), next);
+        let next = next_after(self.table, finished(ticked.outcome));
+        let full = full_with(self.waiting, masks::outside(mask, ticked.folded), next);
         if full != 0 {
-            return self.refuse(QUEUE_FULL, full);
+            return self.refuse(Row::QueueFull.at(full));
         }
         ticked
     }
@@ -57,21 +50,17 @@ impl Machine {
         ensures { result ≡ tick_of self mask supplied cost }
     {
         if self.state_fault() {
-            return self.refuse(FAULTY_STATE, 0);
+            return self.refuse(Row::FaultyState.at(0));
         }
         if self.clock >= MOST_TICKS {
-            return self.refuse(TICKS_SPENT, 0);
+            return self.refuse(Row::TicksSpent.at(0));
         }
-        if cost == 0 {
-            return self.refuse(WRONG_COST, 0);
+        if cost == 0 || cost > LONGEST as u32 {
+            return self.refuse(Row::WrongCost.at(0));
         }
-        if cost > LONGEST as u32 {
-            return self.refuse(WRONG_COST, 0);
-        }
-        let t = self.table;
-        let bit = first_foreign(t, mask);
+        let bit = first_foreign(self.table, mask);
         if bit != 0 {
-            return self.refuse(NOT_A_HEAD, bit);
+            return self.refuse(Row::NotAHead.at(bit));
         }
         self.advance(mask, supplied, cost as u16)
     }
@@ -80,9 +69,8 @@ impl Machine {
     pub fn tick(self, mask: u16, supplied: bool, cost: u32) -> Ticked
         ensures { result ≡ tick_of self mask supplied cost }
     {
-        let t = self.table;
-        if table_fault(t) {
-            return self.refuse(FAULTY_STATE, 0);
+        if table_fault(self.table) {
+            return self.refuse(Row::FaultyState.at(0));
         }
         self.tick_checked(mask, supplied, cost)
     }

@@ -15,6 +15,7 @@ use native.Mathlib.Omega.{arith}
 use lib.Dec.{T, eqb}
 use borrow.Author.Tests.{eqb-true}
 use lib.ListN.{length}
+use Rattle.std.specs.Prelude.{Ok}
 use Rattle.ranges.specs.Sum.{sum, given, hit}
 use Rattle.curves.specs.Demand.{limit}
 use Rattle.ranges.proofs.SumLaws.{hit-none, sum_same, sum-none, le_or_lt}
@@ -27,7 +28,6 @@ use Rattle.busy_window.proofs.Level.{in_set, alone}
 use Rattle.busy_window.proofs.Flow.{inflow, fed-add, fed_zero}
 use Rattle.busy_window.proofs.Chain.{given_no, fed-none}
 use Rattle.answers.specs.declared.Answer.{Answer}
-use Rattle.answers.specs.declared.Outcome.TheVariants.{Answered}
 use Rattle.numbers.specs.Numbers.{most_ticks}
 use Rattle.answers.specs.Outcome.{callback_of, instance_of, finished_of}
 use Rattle.executor.specs.State.{fresh, waiting_of, finished_at}
@@ -97,7 +97,7 @@ module _ (tb : Table) (analysed : Analysed tb) (h : List Tick) (short : length h
 
   -- ---- no tick is refused
 
-  pub answers : (t : ℕ) → t < length h → (a : Answer) × ((result_at r t).outcome ≡ Answered a)
+  pub answers : (t : ℕ) → t < length h → (a : Answer) × ((result_at r t).outcome ≡ Ok a)
   answers t l =
       let d = (Ticks.did tb h orderly t l).answers in
       (d.0, ap (λ (x : Result). x.outcome) (same (suc t) t l (le_refl _)) ∙ d.1)

@@ -3,11 +3,10 @@
 -- with the results that the machine started from b gives: no tick is refused; no instance starts before its activation; and wherever the k-th
 -- activation of the head of a callback's chain is at time v, and v + R is at most N, R being the callback's number in the row that the analyser
 -- wrote, the k-th completion of the callback is there, at time v + R or earlier.
-use Rattle.std.specs.Prelude.{◌≡◌, List, ℕ, suc, ◌+◌, ◌≤◌, ◌<◌, length, get_or}
+use Rattle.std.specs.Prelude.{◌≡◌, List, ℕ, suc, ◌+◌, ◌≤◌, ◌<◌, length, get_or, Ok}
 use Rattle.table.specs.declared.Table.{Table}
 use Rattle.reader.specs.Format.{table_at}
 use Rattle.answers.specs.declared.Answer.{Answer}
-use Rattle.answers.specs.declared.Outcome.TheVariants.{Answered}
 use Rattle.numbers.specs.Numbers.{most_ticks}
 use Rattle.executor.specs.Start.{start_of}
 use Rattle.sheet.specs.Sheet.{analysis_fault, row_of}
@@ -18,7 +17,7 @@ use Rattle.chains.specs.Chains.{head_of}
 -- what is promised of a table, a row of bounds, a list of ticks and its results
 pub record Guaranteed (tb : Table) (row : List ℕ) (h : List Tick) (r : List Result) : Type 0 where
   -- no tick is refused: each is answered
-  pub answered : (t : ℕ) → t < length h → (a : Answer) × ((result_at r t).outcome ≡ Answered a)
+  pub answered : (t : ℕ) → t < length h → (a : Answer) × ((result_at r t).outcome ≡ Ok a)
   -- no instance starts before its activation: where instance k starts at time t there are k activations at times up to t
   pub started : (i k t : ℕ) → i < tb.count → t < length h → InstanceStarts r i k t → k ≤ activations tb h r i (suc t)
   -- the bound: the k-th completion comes by R after the k-th activation of the chain's head, wherever the list runs that far

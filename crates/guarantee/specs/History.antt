@@ -1,14 +1,12 @@
 -- The words of document 01, 'A history', read from a list of ticks and the list of their results alone.
 -- Callbacks are slots here (from 0); instances, activations and completions are counted from 1; times run from tick 0.
-use Rattle.std.specs.Prelude.{Bool, false, cond, ◌&&◌, List, [], ◌∷◌, ℕ, zero, suc, ◌+◌, T, eqb, get_or, ◌≡◌}
+use Rattle.std.specs.Prelude.{Bool, false, cond, ◌&&◌, List, [], ◌∷◌, ℕ, zero, suc, ◌+◌, T, eqb, get_or, ◌≡◌, Ok}
 use Rattle.folding.specs.Folding.{kept}
 use Rattle.ranges.specs.Sum.{sum, given}
 use Rattle.table.specs.declared.Table.{Table}
 use Rattle.table.specs.Links.{linked, is_head}
 use Rattle.answers.specs.declared.Answer.TheVariants.{NoSupply}
-use Rattle.answers.specs.declared.Outcome.{Outcome}
-use Rattle.answers.specs.declared.Outcome.TheVariants.{Answered}
-use Rattle.answers.specs.Outcome.{callback_of, instance_of, finished_of}
+use Rattle.answers.specs.Outcome.{Outcome, callback_of, instance_of, finished_of}
 use Rattle.executor.specs.declared.Machine.{Machine}
 use Rattle.executor.specs.declared.Ticked.{Ticked}
 use Rattle.executor.specs.Tick.{tick_of}
@@ -44,7 +42,7 @@ unfoldable pub tick_at : List Tick → ℕ → Tick
 tick_at h t = get_or h t (record { mask = 0; supplied = false; cost = 1 })
 
 unfoldable pub result_at : List Result → ℕ → Result
-result_at r t = get_or r t (record { outcome = Answered NoSupply; started = false; polled = false; gathered = 0; folded = 0 })
+result_at r t = get_or r t (record { outcome = Ok NoSupply; started = false; polled = false; gathered = 0; folded = 0 })
 
 -- a window: f summed over D consecutive ticks from tick t on
 abbrev pub over_window : (ℕ → ℕ) → ℕ → ℕ → ℕ

@@ -13,9 +13,8 @@
 -- the bounds are 6, 9 and 10: B is 3 for both timers, what is left of the subscription when it has just started. It starts at 0; both timers are activated at
 -- 1, when the supply fails for two ticks, and wait until it has finished. The first finishes at 7, the second at 10: each just at its bound. Over all callbacks
 -- both had 10, which no history of the first can meet. Until they start both beat in each tick; these beats are folded.
-use Rattle.std.specs.Prelude.{true, false, List, [], ◌∷◌, ◌++◌, ℕ, replicate}
+use Rattle.std.specs.Prelude.{true, false, List, [], ◌∷◌, ◌++◌, ℕ, replicate, Ok}
 use Rattle.answers.specs.declared.Answer.TheVariants.{NoSupply, Idle, Ran, Finished}
-use Rattle.answers.specs.declared.Outcome.TheVariants.{Answered}
 use Rattle.guarantee.specs.History.{Tick, Result}
 
 pub record Case : Type 0 where
@@ -48,28 +47,28 @@ off mask = record { mask = mask; supplied = false; cost = 1 }
 -- what ticks say: no supply; idle, at a polling point that takes none; goes on; finishes; and the first two of an instance that starts,
 -- chosen at a polling point that takes g, or at none (a timer of edition 1, or from the cache)
 abbrev none : Result
-none = record { outcome = Answered NoSupply; started = false; polled = false; gathered = 0; folded = 0 }
+none = record { outcome = Ok NoSupply; started = false; polled = false; gathered = 0; folded = 0 }
 
 abbrev idle : Result
-idle = record { outcome = Answered Idle; started = false; polled = true; gathered = 0; folded = 0 }
+idle = record { outcome = Ok Idle; started = false; polled = true; gathered = 0; folded = 0 }
 
 abbrev goes_on : ℕ → ℕ → Result
-goes_on i k = record { outcome = Answered (Ran i k); started = false; polled = false; gathered = 0; folded = 0 }
+goes_on i k = record { outcome = Ok (Ran i k); started = false; polled = false; gathered = 0; folded = 0 }
 
 abbrev ends : ℕ → ℕ → Result
-ends i k = record { outcome = Answered (Finished i k); started = false; polled = false; gathered = 0; folded = 0 }
+ends i k = record { outcome = Ok (Finished i k); started = false; polled = false; gathered = 0; folded = 0 }
 
 abbrev starts : ℕ → ℕ → Result
-starts i k = record { outcome = Answered (Ran i k); started = true; polled = false; gathered = 0; folded = 0 }
+starts i k = record { outcome = Ok (Ran i k); started = true; polled = false; gathered = 0; folded = 0 }
 
 abbrev starts-ends : ℕ → ℕ → Result
-starts-ends i k = record { outcome = Answered (Finished i k); started = true; polled = false; gathered = 0; folded = 0 }
+starts-ends i k = record { outcome = Ok (Finished i k); started = true; polled = false; gathered = 0; folded = 0 }
 
 abbrev polls_starts : ℕ → ℕ → ℕ → Result
-polls_starts i k g = record { outcome = Answered (Ran i k); started = true; polled = true; gathered = g; folded = 0 }
+polls_starts i k g = record { outcome = Ok (Ran i k); started = true; polled = true; gathered = g; folded = 0 }
 
 abbrev polls_ends : ℕ → ℕ → ℕ → Result
-polls_ends i k g = record { outcome = Answered (Finished i k); started = true; polled = true; gathered = g; folded = 0 }
+polls_ends i k g = record { outcome = Ok (Finished i k); started = true; polled = true; gathered = g; folded = 0 }
 
 -- the same with beats that were folded
 abbrev folds : ℕ → Result → Result

@@ -5,7 +5,7 @@
 
 #![tactic(auto)]
 
-use answers::{Answer, Outcome};
+use answers::Answer;
 use executor::{Machine, Ticked};
 use table::Refusal;
 
@@ -31,11 +31,11 @@ fn print_answer(answer: Answer) {
 fn print_tick(place: u32, ticked: Ticked) {
     frames::print_number(place);
     match ticked.outcome {
-        Outcome::Refused(r) => {
+        Err(r) => {
             frames::print(b" ");
             print_refusal(r);
         }
-        Outcome::Answered(a) => {
+        Ok(a) => {
             print_answer(a);
             frames::print_fields(&[ticked.started, ticked.polled]);
             frames::print_fields(&[u16::from(ticked.gathered), ticked.folded]);

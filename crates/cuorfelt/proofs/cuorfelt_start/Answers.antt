@@ -5,7 +5,7 @@ use Rattle.cuorfelt.proofs.EdgeLaws.{start_short, start_size, start_refused, sta
 use Rattle.cuorfelt.proofs.cuorfelt_start.Goals as goal
 
 pub returns-then-state-ne-STATE_LENGTH : goal.returns-then-state-ne-STATE_LENGTH
-returns-then-state-ne-STATE_LENGTH c = let x = start_short _ _ c.if-state-ne-STATE_LENGTH.true in (c.refused.ensures ∙ x.0, x.1)
+returns-then-state-ne-STATE_LENGTH c = let x = start_short _ _ c.if-state-ne-STATE_LENGTH.true in (c.at.ensures ∙ x.0, x.1)
 
 pub returns-then-why-ne0 : goal.returns-then-why-ne0
 returns-then-why-ne0 c = let s = c.before.before.before in start_refused _ _ c.if-state-ne-STATE_LENGTH.false c.start-started.ensures c.if-why-ne0.true

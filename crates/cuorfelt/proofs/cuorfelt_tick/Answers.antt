@@ -21,7 +21,7 @@ tick_checked-x-requires c =
 pub returns-then-r-ne0 : goal.returns-then-r-ne0
 returns-then-r-ne0 c =
     let held = laid_some _ _ c.in-Some.ensures in
-    tick_refused _ _ _ _ held.0 held.1 c.tick_checked-x.ensures c.reply-r.ensures c.if-r-ne0.true
+    tick_refused _ _ _ _ held.0 held.1 c.tick_checked-x.ensures c.new-r.ensures c.if-r-ne0.true
 
 pub pack_tail-requires : goal.pack_tail-requires
 pack_tail-requires c = (laid_some _ _ c.in-Some.ensures).0.size
@@ -30,4 +30,4 @@ pub returns : goal.returns
 returns c =
     let held = laid_some _ _ c.in-Some.ensures in
     let p = c.pack_tail.ensures in
-    tick_done _ _ _ _ held.0 held.1 c.tick_checked-x.ensures c.reply-r.ensures (λ i. search rules) c.if-r-ne0.false p.0 p.1 p.2
+    tick_done _ _ _ _ held.0 held.1 c.tick_checked-x.ensures c.new-r.ensures (λ i. search rules) c.if-r-ne0.false p.0 p.1 p.2

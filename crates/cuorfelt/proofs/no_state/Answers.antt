@@ -1,12 +1,12 @@
 -- 29, and nothing beside it.
 use mathlib.Core.Path.{ap, ◌∙◌}
 use mathlib.Core.Bool.{false}
+use Rattle.std.specs.Prelude.{Err}
 use Rattle.table.specs.declared.Refusal.{Refusal}
-use Rattle.answers.specs.declared.Outcome.TheVariants.{Refused}
 use Rattle.answers.specs.Outcome.{reply_of}
 use Rattle.cuorfelt.specs.Edge.{no_state}
 use Rattle.cuorfelt.proofs.no_state.Goals as goal
 
 pub returns : goal.returns
 unfolding no_state
-returns c = c.reply.ensures ∙ ap (λ (r : Refusal). reply_of (Refused r) false false 0 0) c.refused.ensures
+returns c = c.new.ensures ∙ ap (λ (r : Refusal). reply_of (Err r) false false 0 0) c.at.ensures

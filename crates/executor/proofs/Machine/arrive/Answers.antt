@@ -11,7 +11,6 @@ use Rattle.executor.proofs.Machine.arrive.Goals as goal
 
 pub returns : goal.returns
 returns c =
-    let start = c.before.before.before in
-    let m : Machine = start.args.self in
+    let m : Machine = c.args.self in
     ap (λ (ws : List ℕ). with_counts m ws m.finished)
-    (c.arrive-arrived.ensures ∙ ap (λ (k : ℕ). arrived k m.waiting) (c.before.outside.ensures ∙ ap (except start.args.mask) start.requires.1 ∙ kept_mask start.args.mask _ start.ranges.mask.fits))
+    (c.arrive-waiting.ensures ∙ ap (λ (k : ℕ). arrived k m.waiting) (c.outside.ensures ∙ ap (except c.args.mask) c.requires.1 ∙ kept_mask c.args.mask _ c.ranges.mask.fits))

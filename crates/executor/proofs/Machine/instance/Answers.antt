@@ -5,13 +5,13 @@ use Rattle.executor.proofs.EffectLaws.{instance_none, instance_some}
 use Rattle.executor.proofs.Machine.instance.Goals as goal
 
 pub returns-then-index-eq0 : goal.returns-then-index-eq0
-returns-then-index-eq0 c = instance_none c.before.args.self _ c.if-index-eq0.true
+returns-then-index-eq0 c = instance_none c.args.self _ c.if-index-eq0.true
 
 pub bounds-self-index : goal.bounds-self-index
-bounds-self-index c = (c.before.requires (c.before.args.index - 1) (omega arith)).0
+bounds-self-index c = (c.requires (c.args.index - 1) (omega arith)).0
 
 pub overflow_add-result : goal.overflow_add-result
-overflow_add-result c = record { fits = omega (arith, (c.before.before.requires (c.before.before.args.index - 1) (omega arith)).1) }
+overflow_add-result c = record { fits = omega (arith, (c.requires (c.args.index - 1) (omega arith)).1) }
 
 pub returns : goal.returns
-returns c = instance_some c.before.before.args.self _ c.before.if-index-eq0.false
+returns c = instance_some c.args.self _ c.if-index-eq0.false
