@@ -57,11 +57,10 @@ module _ (m : Machine) (mask : ℕ) (supplied : Bool) (cost : ℕ) where
     pub finished_few : Admissible Numbers.most_waiting m cost → foreign m.table mask ≡ 0 → x ≤ Numbers.places
     finished_few ok heads = subst (λ (y : ℕ). y ≤ Numbers.places) (sym finished_is) (finished_le ok heads)
 
-    pub full_is : (n k y : ℕ) → mask < 65536 → n ≡ next_after m.table x → k ≡ except mask r.folded → y ≡ full_with m.waiting k n → y ≡ full m mask supplied cost
+    pub full_is : (n k : ℕ) → mask < 65536 → n ≡ next_after m.table x → k ≡ except mask r.folded → full_with m.waiting k n ≡ full m mask supplied cost
     unfolding full
-    full_is n k y l g q h =
-        h
-        ∙ ap₂ (full_with m.waiting) (q ∙ ap (except mask) (ap (λ (z : Ticked). z.folded) e ∙ effect_folded) ∙ kept_mask mask _ l)
+    full_is n k l g q =
+        ap₂ (full_with m.waiting) (q ∙ ap (except mask) (ap (λ (z : Ticked). z.folded) e ∙ effect_folded) ∙ kept_mask mask _ l)
         (g ∙ ap (next_after m.table) finished_is)
 
   module _ (x : ℕ) (e : x ≡ full m mask supplied cost) where
@@ -125,25 +124,24 @@ module _ (m : Machine) (mask : ℕ) (supplied : Bool) (cost : ℕ) where
         unfolding tick_fault
         last = rw (right, tick_fault, lt-leb Numbers.most_ticks m.clock early, priced)
 
-        module _ (x : ℕ) (e : x ≡ foreign m.table mask) where
-          pub tick_foreign : x ≢ 0 → refused m (refuse Numbers.not_a_head x) ≡ tick_of m mask supplied cost
-          tick_foreign h =
-              refuses (refuse Numbers.not_a_head x)
-              (last ∙ ap (λ (y : ℕ). lowest_refused Numbers.not_a_head y after20) (sym e) ∙ lowest-refused Numbers.not_a_head x after20 h)
-              (λ z. omega arith)
+        pub tick_foreign : (x : ℕ) → x ≡ foreign m.table mask → x ≢ 0 → refused m (refuse Numbers.not_a_head x) ≡ tick_of m mask supplied cost
+        tick_foreign x e h =
+            refuses (refuse Numbers.not_a_head x)
+            (last ∙ ap (λ (y : ℕ). lowest_refused Numbers.not_a_head y after20) (sym e) ∙ lowest-refused Numbers.not_a_head x after20 h)
+            (λ z. omega arith)
 
-          pub tick_admitted : x ≡ 0 → admitted m mask supplied cost ≡ tick_of m mask supplied cost
-          unfolding admitted
-          tick_admitted z = go (full m mask supplied cost) refl
-            where
-              then : tick_fault m mask supplied cost ≡ lowest_refused Numbers.queue_full (full m mask supplied cost) accepted
-              then = last ∙ lowest_passed Numbers.not_a_head (foreign m.table mask) after20 (sym e ∙ z)
+        pub tick_admitted : foreign m.table mask ≡ 0 → admitted m mask supplied cost ≡ tick_of m mask supplied cost
+        unfolding admitted
+        tick_admitted z = go (full m mask supplied cost) refl
+          where
+            then : tick_fault m mask supplied cost ≡ lowest_refused Numbers.queue_full (full m mask supplied cost) accepted
+            then = last ∙ lowest_passed Numbers.not_a_head (foreign m.table mask) after20 z
 
-              go : (y : ℕ) → full m mask supplied cost ≡ y
-                  → elim y [ zero ↦ effect m mask supplied cost | suc i ↦ refused m (refuse Numbers.queue_full (suc i)) ] ≡ tick_of m mask supplied cost
-              go zero q = passes (ap (λ (r : Refusal). r.number) (then ∙ lowest_passed Numbers.queue_full (full m mask supplied cost) accepted q))
-              go (suc i) q =
-                  refuses (refuse Numbers.queue_full (suc i)) (then ∙ ap (λ (y : ℕ). lowest_refused Numbers.queue_full y accepted) q) (λ n. omega arith)
+            go : (y : ℕ) → full m mask supplied cost ≡ y
+                → elim y [ zero ↦ effect m mask supplied cost | suc i ↦ refused m (refuse Numbers.queue_full (suc i)) ] ≡ tick_of m mask supplied cost
+            go zero q = passes (ap (λ (r : Refusal). r.number) (then ∙ lowest_passed Numbers.queue_full (full m mask supplied cost) accepted q))
+            go (suc i) q =
+                refuses (refuse Numbers.queue_full (suc i)) (then ∙ ap (λ (y : ℕ). lowest_refused Numbers.queue_full y accepted) q) (λ n. omega arith)
 
 -- a cost that is 0, or too large, or neither
 pub cost-none : (cost : ℕ) → cost ≡ 0 → within 1 Numbers.longest cost ≡ false

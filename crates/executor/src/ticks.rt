@@ -11,8 +11,8 @@ use super::{Machine, Ticked};
 use answers::finished;
 use faults::table_fault;
 use numbers::{LONGEST, MOST_TICKS};
-use queues::full::full_with;
-use table::links::{first_foreign, next_after};
+use queues::full::lowest_full;
+use table::links::{lowest_foreign, next_after};
 use table::{Refusal, Row};
 
 impl Machine {
@@ -37,11 +37,10 @@ impl Machine {
     {
         let ticked = self.effect(mask, supplied, cost);
         let next = next_after(self.table, finished(ticked.outcome));
-        let full = full_with(self.waiting, masks::outside(mask, ticked.folded), next);
-        if full != 0 {
-            return self.refuse(Row::QueueFull.at(full));
+        match lowest_full(self.waiting, masks::outside(mask, ticked.folded), next) {
+            Some(full) => self.refuse(Row::QueueFull.at(full)),
+            None => ticked,
         }
-        ticked
     }
 
     // A tick of a state whose table has no faults.
@@ -58,9 +57,8 @@ impl Machine {
         if cost == 0 || cost > LONGEST as u32 {
             return self.refuse(Row::WrongCost.at(0));
         }
-        let bit = first_foreign(self.table, mask);
-        if bit != 0 {
-            return self.refuse(Row::NotAHead.at(bit));
+        if let Some(index) = lowest_foreign(self.table, mask) {
+            return self.refuse(Row::NotAHead.at(index));
         }
         self.advance(mask, supplied, cost as u16)
     }

@@ -4,6 +4,7 @@ use mathlib.Core.Bool.{false}
 use native.Mathlib.Omega.{arith}
 use borrow.Author.Rules.{rules}
 use Rattle.ranges.specs.Every.{within}
+use Rattle.masks.proofs.Index.{is_none, is_some}
 use Rattle.numbers.specs.Numbers.{longest}
 use Rattle.executor.specs.Tick.{refused}
 use Rattle.executor.proofs.FaultLaws.{faulty_by, right_by}
@@ -30,25 +31,26 @@ returns-then-cost-eq0 c =
     ∙ ap (refused c.args.self) c.at-then-cost-eq0.ensures
     ∙ tick_cost c.args.self _ _ _ (right_by c.args.self _ c.requires c.state_fault.ensures c.if-state_fault.false) c.if-self-ge-MOST_TICKS.false wrong
 
-pub first_foreign-bit-requires : goal.first_foreign-bit-requires
-first_foreign-bit-requires c = (table_sound _ c.requires).few
+pub lowest_foreign-requires : goal.lowest_foreign-requires
+lowest_foreign-requires c = (table_sound _ c.requires).few
 
-pub returns-then-bit-ne0 : goal.returns-then-bit-ne0
-returns-then-bit-ne0 c =
-    c.refuse-then-bit-ne0.ensures
-    ∙ ap (refused c.args.self) c.at-then-bit-ne0.ensures
+pub returns-in-Some : goal.returns-in-Some
+returns-in-Some c =
+    let h = is_some _ _ c.in-Some.ensures in
+    c.refuse-in-Some.ensures
+    ∙ ap (refused c.args.self) c.at-in-Some.ensures
     ∙ tick_foreign c.args.self _ _ _ (right_by c.args.self _ c.requires c.state_fault.ensures c.if-state_fault.false) c.if-self-ge-MOST_TICKS.false
-    (cost_right _ c.if-cost-eq0.false c.if-cost.false) _ c.first_foreign-bit.ensures c.if-bit-ne0.true
+    (cost_right _ c.if-cost-eq0.false c.if-cost.false) _ (sym h.0) (λ z. h.1 (h.0 ∙ z))
 
 pub advance-requires : goal.advance-requires
 advance-requires c = (
   (let v = valid_of c.args.self (search rules, search rules) (search rules) c.requires (sym c.state_fault.ensures ∙ c.if-state_fault.false) in
       record { valid = v.0; room = v.1; early = c.if-self-ge-MOST_TICKS.false; priced = (omega arith, c.if-cost.false) }),
-  sym c.first_foreign-bit.ensures ∙ c.if-bit-ne0.false,
+  is_none _ c.in_default.ensures,
 )
 
 pub returns : goal.returns
 returns c =
     c.advance.ensures
     ∙ tick_admitted c.args.self _ _ _ (right_by c.args.self _ c.requires c.state_fault.ensures c.if-state_fault.false) c.if-self-ge-MOST_TICKS.false
-    (cost_right _ c.if-cost-eq0.false c.if-cost.false) _ c.first_foreign-bit.ensures c.if-bit-ne0.false
+    (cost_right _ c.if-cost-eq0.false c.if-cost.false) (is_none _ c.in_default.ensures)
