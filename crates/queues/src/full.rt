@@ -30,11 +30,3 @@ pub fn lowest_full(waiting: [u16; 16], mask: u16, next: u8) -> Option<u8>
     }
     first_full(waiting, masks::set_slot(mask, (next - 1) as u16))
 }
-
-// The lowest callback with 255 waiting, of the mask and of the one that is activated; 0 where none has. No callback is activated where
-// next is 0, or the index of no place.
-pub fn full_with(waiting: [u16; 16], mask: u16, next: u8) -> u8
-    ensures { result ≡ full_with waiting mask next }
-{
-    lowest_full(waiting, mask, next).unwrap_or(0)
-}

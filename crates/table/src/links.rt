@@ -57,14 +57,6 @@ pub fn next_after(t: Table, index: u8) -> u8
     t.callbacks[(index - 1) as usize].next
 }
 
-// The lowest bit of the mask that belongs to no head, plus 1; 0 where there is none.
-pub fn first_foreign(t: Table, mask: u16) -> u8
-    requires { t.count ≤ places }
-    ensures { result ≡ foreign t mask }
-{
-    lowest_foreign(t, mask).unwrap_or(0)
-}
-
 // The lowest bit of the mask that belongs to no head, as an index.
 pub fn lowest_foreign(t: Table, mask: u16) -> Option<u8>
     requires { t.count ≤ places }
