@@ -1,5 +1,5 @@
 -- The first in priority is found in the kinds' masks. Assumes nothing.
--- kinds_more: one record sorted in. next_some, next_none: an index or what follows.
+-- sort_numbered, kinds_more: one record sorted in. foremost_or: of indices that may be missing.
 -- foremost_law: the first in priority from the kinds' masks. foremost-hit, foremost-some, foremost_first: it passes, is there where one
 -- passes, and precedes whoever else does. precedes_trans: whoever precedes one that precedes another precedes that one.
 use mathlib.Core.Path.{◌≡◌, refl, sym, ap, ap₂, ◌∙◌}
@@ -10,9 +10,16 @@ use native.Mathlib.Decide.{ℕ_discrete}
 use native.Mathlib.Numerals.{add-one}
 use native.Mathlib.Omega.{arith}
 use lib.Dec.{eqb, ltb}
-use borrow.Author.Tests.{eq-eqb, eqb-true, lt-ltb, ltb-true}
-use Rattle.masks.specs.Mask.{has, gather}
-use Rattle.masks.specs.Parts.{both, first_index}
+use borrow.Author.Tests.{eq-eqb, ne_eqb, eqb-true, lt-ltb, ltb-true}
+use Rattle.std.specs.Prelude.{Result, Ok, Err}
+use Rattle.std.specs.Option.{option_or}
+use Rattle.masks.specs.Mask.{has, with_bit, gather}
+use Rattle.masks.specs.Parts.{both, first_index, some_index}
+use Rattle.table.specs.declared.kinds.Kind.{Kind}
+use Rattle.table.specs.declared.kinds.Kind.TheVariants.{Timer, Subscription, Service, Client}
+use Rattle.table.specs.declared.kinds.UnknownKind.{UnknownKind}
+use Rattle.table.specs.Kinds.{kind_numbered}
+use Rattle.priority.specs.declared.Kinds.{Kinds}
 use Rattle.masks.proofs.Index.{first_both}
 use Rattle.ranges.specs.Least.{lowest}
 use Rattle.ranges.proofs.LeastLaws.{lowest-hit, lowest_first, lowest-none}
@@ -28,12 +35,48 @@ pub kinds_more : (t : Table) (i : ℕ) → sort_one (kinds_to t i) (kind_of t i)
 unfolding kinds_to sort_one gather
 kinds_more t i = ap (kinds_to t) (sym (add-one i))
 
-pub next_some : (x y : ℕ) → x ≢ 0 → or_next x y ≡ x
-next_some zero y h = absurd (h refl)
-next_some (suc x) y h = refl
+-- one more slot, by the kind that a number has
+abbrev pub sort_by : Kinds → Result Kind UnknownKind → ℕ → Kinds
+sort_by k (Ok Timer) i = record { timers = with_bit k.timers i; subscriptions = k.subscriptions; services = k.services; clients = k.clients }
+sort_by k (Ok Subscription) i = record { timers = k.timers; subscriptions = with_bit k.subscriptions i; services = k.services; clients = k.clients }
+sort_by k (Ok Service) i = record { timers = k.timers; subscriptions = k.subscriptions; services = with_bit k.services i; clients = k.clients }
+sort_by k (Ok Client) i = record { timers = k.timers; subscriptions = k.subscriptions; services = k.services; clients = with_bit k.clients i }
+sort_by k (Err e) i = k
 
-pub next_none : (x y : ℕ) → x ≡ 0 → or_next x y ≡ y
-next_none x y e = ap (λ (z : ℕ). or_next z y) e
+sort_law : (k : Kinds) (n i : ℕ) → sort_by k (kind_numbered n) i ≡ sort_one k n i
+unfolding sort_one
+sort_law k zero i = refl
+sort_law k (suc zero) i = refl
+sort_law k (suc (suc zero)) i = refl
+sort_law k (suc (suc (suc zero))) i = refl
+sort_law k (suc (suc (suc (suc zero)))) i = refl
+sort_law k (suc (suc (suc (suc (suc n))))) i =
+    simp (
+      ne_eqb (suc (suc (suc (suc (suc n))))) 1 (λ e. omega arith),
+      ne_eqb (suc (suc (suc (suc (suc n))))) 2 (λ e. omega arith),
+      ne_eqb (suc (suc (suc (suc (suc n))))) 3 (λ e. omega arith),
+      ne_eqb (suc (suc (suc (suc (suc n))))) 4 (λ e. omega arith),
+    )
+
+pub sort_numbered : (k : Kinds) (n i : ℕ) (r : Result Kind UnknownKind) → r ≡ kind_numbered n → sort_by k r i ≡ sort_one k n i
+sort_numbered k n i r e = ap (λ (x : Result Kind UnknownKind). sort_by k x i) e ∙ sort_law k n i
+
+-- indices that may be missing, one after the other
+first_index_of : (x y z w : ℕ) → option_or (option_or (option_or (some_index x) (some_index y)) (some_index z)) (some_index w)
+    ≡ some_index (or_next x (or_next y (or_next z w)))
+first_index_of (suc i) y z w = refl
+first_index_of zero (suc i) z w = refl
+first_index_of zero zero (suc i) w = refl
+first_index_of zero zero zero w = refl
+
+pub foremost_or : (k : Kinds) (m : ℕ) → option_or (option_or (option_or
+    (some_index (first_index (both k.timers m)))
+    (some_index (first_index (both k.subscriptions m))))
+    (some_index (first_index (both k.services m))))
+    (some_index (first_index (both k.clients m)))
+    ≡ some_index (foremost_in k m)
+unfolding foremost_in
+foremost_or k m = first_index_of (first_index (both k.timers m)) (first_index (both k.subscriptions m)) (first_index (both k.services m)) (first_index (both k.clients m))
 
 next_last : (x : ℕ) → or_next x 0 ≡ x
 next_last zero = refl

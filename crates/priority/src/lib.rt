@@ -3,15 +3,15 @@
 #![tactic(auto)]
 
 ghost use Rattle.std.specs.Prelude.{◌≡◌, ℕ, ◌≤◌, ◌<◌};
+ghost use Rattle.masks.specs.Parts.{some_index};
 ghost use Rattle.numbers.specs.Numbers.{places};
 ghost use Rattle.priority.specs.Parts.{kinds_of, sort_one, foremost_in};
 
-use masks::first_index;
-use numbers::{CLIENT, SERVICE, SUBSCRIPTION, TIMER};
-use table::Table;
+use masks::lowest_index;
+use table::{Kind, Table};
 
 // The slots of each kind.
-#[derive(Clone, Copy)]
+#[derive(Clone, Copy, Default)]
 pub struct Kinds {
     pub timers: u16,
     pub subscriptions: u16,
@@ -25,21 +25,12 @@ fn sort_one(kinds: Kinds, kind: u8, slot: u16) -> Kinds
     ensures { result ≡ sort_one kinds kind slot }
 {
     let mut k = kinds;
-    if kind == TIMER {
-        k.timers = masks::set_slot(k.timers, slot);
-        return k;
-    }
-    if kind == SUBSCRIPTION {
-        k.subscriptions = masks::set_slot(k.subscriptions, slot);
-        return k;
-    }
-    if kind == SERVICE {
-        k.services = masks::set_slot(k.services, slot);
-        return k;
-    }
-    if kind == CLIENT {
-        k.clients = masks::set_slot(k.clients, slot);
-        return k;
+    match Kind::try_from(kind) {
+        Ok(Kind::Timer) => k.timers = masks::set_slot(k.timers, slot),
+        Ok(Kind::Subscription) => k.subscriptions = masks::set_slot(k.subscriptions, slot),
+        Ok(Kind::Service) => k.services = masks::set_slot(k.services, slot),
+        Ok(Kind::Client) => k.clients = masks::set_slot(k.clients, slot),
+        Err(_) => {}
     }
     k
 }
@@ -49,37 +40,19 @@ pub fn by_kind(t: Table) -> Kinds
     requires { t.count ≤ places }
     ensures { result ≡ kinds_of t }
 {
-    let n = t.count;
-    let mut k = Kinds {
-        timers: 0,
-        subscriptions: 0,
-        services: 0,
-        clients: 0,
-    };
-    let mut i: u8 = 0;
-    while i < n {
-        let c = t.callbacks[i as usize];
+    let mut k = Kinds::default();
+    for (i, c) in t.callbacks[..t.count as usize].iter().enumerate() {
         k = sort_one(k, c.kind, i as u16);
-        i += 1;
     }
     k
 }
 
-// The first in priority of the slots in the mask, as an index, 0 where no kind has any of them.
-pub fn foremost(k: Kinds, mask: u16) -> u8
-    ensures { result ≡ foremost_in k mask }
+// The first in priority of the slots in the mask, as an index.
+pub fn foremost(k: Kinds, mask: u16) -> Option<u8>
+    ensures { result ≡ some_index (foremost_in k mask) }
 {
-    let timer = first_index(k.timers & mask);
-    if timer != 0 {
-        return timer;
-    }
-    let subscription = first_index(k.subscriptions & mask);
-    if subscription != 0 {
-        return subscription;
-    }
-    let service = first_index(k.services & mask);
-    if service != 0 {
-        return service;
-    }
-    first_index(k.clients & mask)
+    lowest_index(k.timers & mask)
+        .or(lowest_index(k.subscriptions & mask))
+        .or(lowest_index(k.services & mask))
+        .or(lowest_index(k.clients & mask))
 }

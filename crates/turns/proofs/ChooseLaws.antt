@@ -3,8 +3,8 @@
 --                                          holds what it should, somebody is chosen wherever somebody waits, and unpolled ones go before all else
 --   all_polled, chosen_cached, cache_first  edition 2: nobody is chosen outside the cache, and while it has somebody, a timer that waits outside it
 --                                          goes on waiting
---   first_unpolled, first_cached, at_poll  what is chosen in masks, search by search
---   Sorted, one-polled, one_unpolled, one-idle  the slots that wait, one after the other
+--   choose_hit, at_poll                    what is chosen in masks, by what the first two searches find together
+--   Sorted, one-polled, one_unpolled, one-idle, polled_at  the slots that wait, one after the other
 --   foremost-same, choose_law              the choice in masks is that of step 3
 use mathlib.Core.Path.{◌≡◌, refl, sym, ap, ap₂, ◌∙◌}
 use mathlib.Core.Logic.{◌≢◌}
@@ -13,16 +13,21 @@ use mathlib.Core.List.{List}
 use Prim.Native.Nat.{ℕ, zero, suc, ◌+◌, ◌≤◌, ◌<◌}
 use native.Mathlib.Omega.{arith}
 use lib.Dec.{eqb, ltb}
-use lib.ListN.{get_or}
+use lib.ListN.{length, get_or, take}
 use borrow.Author.Tests.{ltb-true, lt-ltb, le-ltb, eq-eqb}
+use Rattle.std.specs.Prelude.{Option, Some}
+use Rattle.std.specs.Option.{option_or, unwrap_or}
 use Rattle.masks.specs.Mask.{has, with_bit, count_of}
+use Rattle.masks.specs.Parts.{some_index}
 use Rattle.masks.proofs.Gather.{gather_in, gather-has, gather_took, gather-left}
 use Rattle.ranges.proofs.LeastLaws.{lowest-same}
 use Rattle.ranges.proofs.EveryLaws.{flipped, and_holds, never_both}
 use Rattle.table.specs.declared.Table.{Table}
 use Rattle.priority.specs.declared.Kinds as masked
 use Rattle.numbers.specs.Numbers.{places, edition_two, timer, client}
-use Rattle.table.specs.Values.{kind_of}
+use Rattle.table.specs.declared.Callback.{Callback}
+use Rattle.table.specs.Values.{kind_of, vacant}
+use Rattle.table.proofs.UsedLaws.{used-at}
 use Rattle.turns.specs.declared.Choice.{Choice}
 use Rattle.turns.specs.declared.Waits as split
 use Rattle.turns.specs.Choosing.{polled, is_polled, choice, gathered_of, polling_point, choose}
@@ -125,21 +130,34 @@ module _ (t : Table) (two : t.edition ≡ edition_two) where
 
 -- ---- the choice in masks
 
+-- by what the two searches find together: somebody, or nobody
+hit_of : (c x y v : ℕ) (z : Choice) → option_or (some_index x) (some_index y) ≡ Some v → choice v c false 0 ≡ chosen_of c x y z
+hit_of c (suc i) y v z e = (let q : v ≡ suc i = cc in ap (λ (u : ℕ). choice u c false 0) q)
+hit_of c zero (suc i) v z e = (let q : v ≡ suc i = cc in ap (λ (u : ℕ). choice u c false 0) q)
+hit_of c zero zero v z e = absurd (cc)
+
+miss_of : (c x y : ℕ) (z : Choice) → ((v : ℕ) → option_or (some_index x) (some_index y) ≡ Some v → ⊥) → z ≡ chosen_of c x y z
+miss_of c (suc i) y z h = absurd (h (suc i) refl)
+miss_of c zero (suc i) z h = absurd (h (suc i) refl)
+miss_of c zero zero z h = refl
+
+-- an index that may be missing, with 0 for none
+index_of : (x : ℕ) → unwrap_or (some_index x) 0 ≡ x
+index_of zero = refl
+index_of (suc i) = refl
+
 module _ (k : masked.Kinds) (c : ℕ) (w : split.Waits) where
-  pub first_unpolled : (x : ℕ) → x ≡ foremost_in k w.unpolled → x ≢ 0 → choice x c false 0 ≡ choose_in k c w
+  pub choose_hit : (v : ℕ) (r : Option ℕ) → r ≡ option_or (some_index (foremost_in k w.unpolled)) (some_index (foremost_in k c)) → r ≡ Some v
+      → choice v c false 0 ≡ choose_in k c w
   unfolding choose_in
-  first_unpolled zero e h = absurd (h refl)
-  first_unpolled (suc i) e h = rw (← e, choose_in)
+  choose_hit v r e h = hit_of c (foremost_in k w.unpolled) (foremost_in k c) v (poll_in k w.polled) (sym e ∙ h)
 
-  pub first_cached : (x : ℕ) → foremost_in k w.unpolled ≡ 0 → x ≡ foremost_in k c → x ≢ 0 → choice x c false 0 ≡ choose_in k c w
+  pub at_poll : (x n : ℕ) (r p : Option ℕ) → r ≡ option_or (some_index (foremost_in k w.unpolled)) (some_index (foremost_in k c)) → ((v : ℕ) → r ≡ Some v → ⊥)
+      → p ≡ some_index (foremost_in k w.polled) → x ≡ unwrap_or p 0 → n ≡ count_of places w.polled → choice x w.polled true n ≡ choose_in k c w
   unfolding choose_in
-  first_cached zero z e h = absurd (h refl)
-  first_cached (suc i) z e h = rw (z, choose_in, ← e)
-
-  pub at_poll : (x n : ℕ) → foremost_in k w.unpolled ≡ 0 → foremost_in k c ≡ 0
-      → x ≡ foremost_in k w.polled → n ≡ count_of places w.polled → choice x w.polled true n ≡ choose_in k c w
-  unfolding choose_in
-  at_poll x n z y f h = rw (z, choose_in, y, f, h)
+  at_poll x n r p e none f g h =
+      ap₂ (λ (i j : ℕ). choice i w.polled true j) (g ∙ ap (λ (o : Option ℕ). unwrap_or o 0) f ∙ index_of (foremost_in k w.polled)) h
+      ∙ miss_of c (foremost_in k w.unpolled) (foremost_in k c) (poll_in k w.polled) (λ v q. none v (e ∙ q))
 
 -- one slot more of those that wait: it is polled, it is not, it does not wait
 abbrev pub Sorted : Table → List ℕ → ℕ → ℕ → ℕ → Type 0
@@ -163,6 +181,11 @@ module _ (t : Table) (ws : List ℕ) (i g o : ℕ) (inv : Sorted t ws i g o) whe
     gather-left (λ j. is_polled t j && waits ws j) i g inv.0 (ap (λ (b : Bool). is_polled t i && b) (le-ltb 0 (get_or ws i 0) w) ∙ and-false (is_polled t i)),
     gather-left (λ j. not (is_polled t j) && waits ws j) i o inv.1 (ap (λ (b : Bool). not (is_polled t i) && b) (le-ltb 0 (get_or ws i 0) w) ∙ and-false (not (is_polled t i))),
   )
+
+-- whether the callback of a place among those that are used is polled
+pub polled_at : (t : Table) (i : ℕ) (b : Bool) → i < length (take t.count t.callbacks) → b ≡ polled t.edition (get_or (take t.count t.callbacks) i vacant).kind
+    → b ≡ is_polled t i
+polled_at t i b l e = e ∙ ap (λ (x : Callback). polled t.edition x.kind) (used-at t i l)
 
 -- tests that agree on the callbacks of the table
 pub foremost-same : (t : Table) (p q : ℕ → Bool) → ((i : ℕ) → i < t.count → p i ≡ q i) → foremost t p ≡ foremost t q

@@ -18,15 +18,14 @@ pub fn turn(t: Table, waiting: [u16; 16], cache: u16, running: u8, units: u16, c
     if running != 0 {
         return Turn {
             chosen: running,
-            cache: cache,
+            cache,
             polled: false,
             gathered: 0,
-            units: units,
+            units,
             started: false,
         };
     }
-    let waits = waiting_slots(t, waiting);
-    let x = choose(by_kind(t), cache, waits);
+    let x = choose(by_kind(t), cache, waiting_slots(t, waiting));
     Turn {
         chosen: x.chosen,
         cache: x.cache,

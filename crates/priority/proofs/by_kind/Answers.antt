@@ -1,8 +1,8 @@
-use mathlib.Core.Path.{refl, ap, ◌∙◌}
-use native.Mathlib.Nat.{le_antisymm}
-use native.Mathlib.Omega.{arith}
+use mathlib.Core.Path.{ap, ap₂, ◌∙◌}
+use borrow.Author.Rules.{rules}
 use Rattle.masks.specs.Mask.{gather}
-use Rattle.table.specs.Values.{kind_of}
+use Rattle.table.specs.declared.Callback.{Callback}
+use Rattle.table.proofs.UsedLaws.{used-at, used_end}
 use Rattle.priority.specs.declared.Kinds.{Kinds}
 use Rattle.priority.specs.Parts.{kinds_to, sort_one}
 use Rattle.priority.proofs.PriorityLaws.{kinds_more}
@@ -10,16 +10,16 @@ use Rattle.priority.proofs.by_kind.Goals as goal
 
 pub loop-i-init : goal.loop-i-init
 unfolding kinds_to gather
-loop-i-init c = (omega arith, refl)
+loop-i-init c = search rules
 
 pub loop-i-preserved : goal.loop-i-preserved
 loop-i-preserved c =
-    let t = c.before.before.before.before.args.t in
-    let l = c.before.before.before.loop-i in
-    (omega arith, c.sort_one-k.ensures ∙ ap (λ (k : Kinds). sort_one k (kind_of t l.i) l.i) l.invariant.1 ∙ kinds_more t l.i)
+    let t = c.args.t in
+    let l = c.loop-i in
+    c.sort_one-k.ensures ∙ ap₂ (λ (k : Kinds) (x : Callback). sort_one k x.kind l.i) l.invariant (used-at t l.i c.loop-i-test.true) ∙ kinds_more t l.i
 
 pub returns : goal.returns
 returns c =
-    let t = c.before.before.args.t in
-    let l = c.before.loop-i in
-    l.invariant.1 ∙ ap (kinds_to t) (le_antisymm l.invariant.0 c.loop-i-test.false)
+    let t = c.args.t in
+    let l = c.loop-i in
+    l.invariant ∙ ap (kinds_to t) (used_end t l.i c.requires (search rules) l.auto.i-end c.loop-i-test.false)

@@ -1,24 +1,20 @@
 -- `sort_one` meets its contract: the slot goes into the mask of its kind. Assumes nothing.
-use borrow.Author.Tests.{ne_eqb}
-use Rattle.priority.specs.Parts.{sort_one}
+use mathlib.Core.Path.{sym, ap, ◌∙◌}
+use Rattle.std.specs.Prelude.{Ok}
+use Rattle.priority.proofs.PriorityLaws.{sort_numbered}
 use Rattle.priority.proofs.sort_one.Goals as goal
 
-pub returns-then-kind-eq-TIMER : goal.returns-then-kind-eq-TIMER
-unfolding sort_one
-returns-then-kind-eq-TIMER c = simp (c.set_slot.ensures, c.before.if-kind-eq-TIMER.true)
+pub returns-in-Ok-Timer : goal.returns-in-Ok-Timer
+returns-in-Ok-Timer c = simp c.set_slot.ensures (sort_numbered c.args.kinds c.args.kind c.args.slot _ (ap Ok (sym c.in-Ok-Timer.field-0-is) ∙ c.in-Ok-Timer.ensures))
 
-pub returns-then-kind-eq-SUBSCRIPTION : goal.returns-then-kind-eq-SUBSCRIPTION
-unfolding sort_one
-returns-then-kind-eq-SUBSCRIPTION c = simp (c.set_slot-then-kind-eq-SUBSCRIPTION.ensures, c.before.if-kind-eq-SUBSCRIPTION.true)
+pub returns-in-Ok-Subscription : goal.returns-in-Ok-Subscription
+returns-in-Ok-Subscription c = simp c.set_slot-in-Ok-Subscription.ensures (sort_numbered c.args.kinds c.args.kind c.args.slot _ (ap Ok (sym c.in-Ok-Subscription.field-0-is) ∙ c.in-Ok-Subscription.ensures))
 
-pub returns-then-kind-eq-SERVICE : goal.returns-then-kind-eq-SERVICE
-unfolding sort_one
-returns-then-kind-eq-SERVICE c = simp (c.set_slot-then-kind-eq-SERVICE.ensures, c.before.if-kind-eq-SERVICE.true)
+pub returns-in-Ok-Service : goal.returns-in-Ok-Service
+returns-in-Ok-Service c = simp c.set_slot-in-Ok-Service.ensures (sort_numbered c.args.kinds c.args.kind c.args.slot _ (ap Ok (sym c.in-Ok-Service.field-0-is) ∙ c.in-Ok-Service.ensures))
 
-pub returns-then-kind-eq-CLIENT : goal.returns-then-kind-eq-CLIENT
-unfolding sort_one
-returns-then-kind-eq-CLIENT c = simp (c.set_slot-then-kind-eq-CLIENT.ensures, c.before.if-kind-eq-CLIENT.true)
+pub returns-in-Ok-Client : goal.returns-in-Ok-Client
+returns-in-Ok-Client c = simp c.set_slot-in-Ok-Client.ensures (sort_numbered c.args.kinds c.args.kind c.args.slot _ (ap Ok (sym c.in-Ok-Client.field-0-is) ∙ c.in-Ok-Client.ensures))
 
-pub returns : goal.returns
-unfolding sort_one
-returns c = simp (ne_eqb _ _ c.before.before.before.if-kind-eq-TIMER.false, ne_eqb _ _ c.before.before.if-kind-eq-SUBSCRIPTION.false, ne_eqb _ _ c.before.if-kind-eq-SERVICE.false, ne_eqb _ _ c.if-kind-eq-CLIENT.false)
+pub returns-in-Err : goal.returns-in-Err
+returns-in-Err c = sort_numbered c.args.kinds c.args.kind c.args.slot _ c.in-Err.ensures

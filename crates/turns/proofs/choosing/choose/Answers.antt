@@ -1,19 +1,23 @@
 -- The three searches of step 3 in turn.
-use mathlib.Core.Path.{sym, ◌∙◌}
-use Rattle.turns.proofs.ChooseLaws.{first_unpolled, first_cached, at_poll}
+use mathlib.Core.Path.{ap₂, ◌∙◌}
+use native.Mathlib.Omega.{arith}
+use Rattle.std.specs.Option.{option_or}
+use Rattle.masks.proofs.Counting.{count_le}
+use Rattle.turns.proofs.ChooseLaws.{choose_hit, at_poll}
 use Rattle.turns.proofs.choosing.choose.Goals as goal
 
-pub returns-then-first-ne0 : goal.returns-then-first-ne0
-returns-then-first-ne0 c = first_unpolled _ _ _ _ c.before.foremost-first.ensures c.if-first-ne0.true
+pub returns-in-Some : goal.returns-in-Some
+returns-in-Some c = choose_hit _ _ _ _ c.or.result (c.or.ensures ∙ ap₂ option_or c.foremost-first.ensures c.foremost.ensures) c.in-Some.is
 
-pub returns-then-cached-ne0 : goal.returns-then-cached-ne0
-returns-then-cached-ne0 c =
-    first_cached _ _ _ _ (sym c.before.before.before.foremost-first.ensures ∙ c.before.before.if-first-ne0.false) c.before.foremost-cached.ensures c.if-cached-ne0.true
+-- a mask of sixteen bits has sixteen slots at most
+pub overflow_cast-result : goal.overflow_cast-result
+overflow_cast-result c = omega (arith, c.count.ensures, count_le 16 c.args.waits.polled)
 
 pub returns : goal.returns
 returns c =
-    at_poll _ _ _ _ _
-    (sym c.before.before.before.before.before.foremost-first.ensures ∙ c.before.before.before.before.if-first-ne0.false)
-    (sym c.before.before.before.foremost-cached.ensures ∙ c.before.before.if-cached-ne0.false)
-    c.before.foremost.ensures
-    c.how_many.ensures
+    at_poll _ _ _ _ _ c.or.result c.foremost-2.result
+    (c.or.ensures ∙ ap₂ option_or c.foremost-first.ensures c.foremost.ensures)
+    c.in_default.not-Some
+    c.foremost-2.ensures
+    c.unwrap_or.ensures
+    c.count.ensures
