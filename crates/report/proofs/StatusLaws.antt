@@ -1,4 +1,5 @@
--- Whatever was written and refused, the status is one of the three.
+-- Whatever was written and refused, the status is one of the three, and the third where not all was written.
+use mathlib.Core.Path.{◌≡◌, ap}
 use mathlib.Core.Bool.{Bool, true, false}
 use Prim.Native.Nat.{◌≤◌}
 use native.Mathlib.Omega.{arith}
@@ -19,3 +20,11 @@ status_most true x = go (eqb x.number 0)
 pub printed_most : (p : Printed) → status_of p ≤ failed
 unfolding status_of
 printed_most p = status_most p.written p.sheet.refusal
+
+pub unwritten : (w : Bool) (x : Refusal) → w ≡ false → status_by w x ≡ failed
+unfolding status_by
+unwritten w x e = ap (λ v. status_by v x) e
+
+pub unwritten_of : (p : Printed) → p.written ≡ false → status_of p ≡ failed
+unfolding status_of
+unwritten_of p e = unwritten p.written p.sheet.refusal e

@@ -1,41 +1,35 @@
-// Standard input, with a read that failed told from the end of the input.
+// Standard input, with a read that failed told from the end of the input, and what a program does on it.
 
-ghost use Rattle.std.specs.Prelude.{◌≤◌, length};
+ghost use Rattle.std.specs.Prelude.{◌≤◌, length, ℕ, Bool};
+ghost use Rattle.report.specs.Status.{failed};
+ghost use Rattle.std.specs.Result.{IfOk};
 
-use std::io::{Read, Stdin};
+use std::io::{Read, Result, Stdin};
 
-// How many bytes were read, and whether a read failed behind them.
-#[derive(Clone, Copy)]
-pub struct Input {
-    pub count: usize,
-    pub failed: bool,
-}
-
-// Reads until the buffer is full, the input ends or a read fails.
-pub fn read_all(input: Stdin, buf: &mut [u8]) -> Input
-    ensures { result.count ≤ length buf.old }
+// Reads until the buffer is full or the input ends, and returns how many bytes; the error where a read fails.
+pub fn read_all(mut input: Stdin, buf: &mut [u8]) -> Result<usize>
+    ensures { IfOk result (λ n. n ≤ length buf.old) }
 {
-    let mut from = input;
     let mut done = 0;
     while done < buf.len() {
-        match from.read(&mut buf[done..]) {
-            Ok(0) => {
-                return Input {
-                    count: done,
-                    failed: false,
-                };
-            }
-            Ok(more) => done += more,
-            Err(_) => {
-                return Input {
-                    count: done,
-                    failed: true,
-                };
-            }
+        let more = input.read(&mut buf[done..])?;
+        if more == 0 {
+            break;
         }
+        done += more;
     }
-    Input {
-        count: done,
-        failed: false,
-    }
+    Ok(done)
+}
+
+// What a program does once its input was read, as bytes and whether a read failed: gives the status to end with.
+// No table has more than 528 bytes. An input that fills the buffer has more, and is refused by its first bytes and its length, as all of it would be.
+pub fn on_input<F: FnOnce(&mut [u8], bool) -> u8>(input: Stdin, conclude: F) -> u8
+    requires callable { F.IsAlwaysCallable conclude }
+    requires status { (bytes after : _) (unread : Bool) (r : ℕ) → F.post conclude bytes unread r after → r ≤ failed }
+    ensures { result ≤ failed }
+{
+    let mut buffer = [0; 1024];
+    let read = read_all(input, &mut buffer);
+    let unread = read.is_err();
+    conclude(&mut buffer[..read.unwrap_or(0)], unread)
 }

@@ -21,14 +21,15 @@ const STDOUT_FILENO: i32 = 1;
 
 const STDERR_FILENO: i32 = 2;
 
-// How a program ends: all that was asked for was written; a refusal; or input could not be read or output not be written.
+// How a program ends: all that was asked for was written; a refusal; or input could not be read or output not be written. Numbers and no enum, since
+// the C interface hands them out, and `status` and both `conclude` promise them.
 pub const WHOLE: u8 = 0;
 
 pub const REFUSED: u8 = 1;
 
 pub const FAILED: u8 = 2;
 
-// What the analyser returned, and whether all of it was written.
+// What the analyser returned, and whether all of it was written. No Result, since `report` promises the sheet also where it was not written.
 #[derive(Clone, Copy)]
 pub struct Printed {
     pub sheet: Sheet,
@@ -45,34 +46,27 @@ fn print_pair(a: u64, b: u64) -> bool {
 
 // The line of a refusal: its number and its index behind the word `refused`.
 fn print_refusal(r: Refusal) -> bool {
-    io::write_all(STDOUT_FILENO, b"refused ") && print_pair(r.number as u64, r.index as u64)
+    io::write_all(STDOUT_FILENO, b"refused ") && print_pair(r.number.into(), r.index.into())
 }
 
 fn print_window(window: u16) -> bool {
     io::write_all(STDOUT_FILENO, b"window ")
-        && io::print_decimal(STDOUT_FILENO, window as u64)
+        && io::print_decimal(STDOUT_FILENO, window.into())
         && io::write_all(STDOUT_FILENO, b"\n")
 }
 
 // A line for each bound: index and bound. A bound is at least 1, so that the first 0 ends the row.
-fn print_bounds(row: [u16; 16]) -> bool {
-    for i in 0..16 {
-        let bound = row[i];
-        if bound == 0 {
-            return true;
-        }
-        if !print_pair(i as u64 + 1, bound as u64) {
-            return false;
-        }
-    }
-    true
+fn print_bounds(row: &[u16]) -> bool {
+    row.iter()
+        .take_while(|bound| **bound != 0)
+        .zip(1..)
+        .all(|(bound, i)| print_pair(i, u64::from(*bound)))
 }
 
 // The window and the bounds, or the refusal alone.
-fn print_sheet(found: Sheet, row: [u16; 16]) -> bool {
-    let refusal = found.refusal;
-    if refusal.number != 0 {
-        return print_refusal(refusal);
+fn print_sheet(found: Sheet, row: &[u16]) -> bool {
+    if found.refusal.number != 0 {
+        return print_refusal(found.refusal);
     }
     print_window(found.window) && print_bounds(row)
 }
@@ -81,13 +75,10 @@ fn print_sheet(found: Sheet, row: [u16; 16]) -> bool {
 pub fn report(bytes: &[u8]) -> Printed
     ensures { result.sheet ≡ sheet_of bytes.now places }
 {
-    let mut row = [0u16; 16];
-    let found = sheet::analyse(bytes, &mut row);
-    let written = print_sheet(found, row);
-    Printed {
-        sheet: found,
-        written: written,
-    }
+    let mut row = [0; 16];
+    let sheet = sheet::analyse(bytes, &mut row);
+    let written = print_sheet(sheet, &row);
+    Printed { sheet, written }
 }
 
 // The status by whether all was written, and by the refusal.
@@ -95,20 +86,27 @@ fn status_by(written: bool, refusal: Refusal) -> u8
     ensures { result ≡ status_by written refusal }
 {
     if !written {
-        return FAILED;
+        FAILED
+    } else if refusal.number != 0 {
+        REFUSED
+    } else {
+        WHOLE
     }
-    if refusal.number != 0 {
-        return REFUSED;
-    }
-    WHOLE
 }
 
 // The status of a program that printed this.
 pub fn status(printed: Printed) -> u8
     ensures { result ≡ status_of printed }
 {
-    let found = printed.sheet;
-    status_by(printed.written, found.refusal)
+    status_by(printed.written, printed.sheet.refusal)
+}
+
+// A word on standard error and the status that goes with it.
+fn fail(words: &[u8]) -> u8
+    ensures { result ≡ failed }
+{
+    io::write_all(STDERR_FILENO, words);
+    FAILED
 }
 
 // The program `bounds` once its input was read, as bytes and whether a read failed behind them: prints their sheet and gives the status to end
@@ -117,28 +115,25 @@ pub fn conclude(bytes: &[u8], unread: bool) -> u8
     ensures { Ends bytes.now unread result }
 {
     if unread {
-        io::write_all(STDERR_FILENO, b"bounds: standard input cannot be read\n");
-        return FAILED;
+        return fail(b"bounds: standard input cannot be read\n");
     }
     let printed = report(bytes);
     if !printed.written {
-        io::write_all(
-            STDERR_FILENO,
-            b"bounds: standard output cannot be written\n",
-        );
+        return fail(b"bounds: standard output cannot be written\n");
     }
     status(printed)
 }
 
 // The program `bounds` as a function: reads standard input, prints and gives the status to end with.
-// No table has more than 528 bytes. An input that fills the buffer has more, and is refused by its first bytes and its length, as all of it would be.
 // Only with the handle of standard input can a read that failed be told from the input's end; it takes no bytes, so that a host in C passes nothing.
 #[unsafe(no_mangle)]
 pub extern "C" fn cuorfelt_bounds(input: Stdin) -> u8
     ensures { result ≤ failed }
 {
-    let mut buffer = [0u8; 1024];
-    let read = input::read_all(input, &mut buffer);
-    let n = read.count;
-    conclude(&buffer[..n], read.failed)
+    input::on_input(
+        input,
+        |bytes, unread|
+            ensures { result ≤ failed }
+        { conclude(bytes, unread) },
+    )
 }

@@ -6,11 +6,12 @@ ghost use Rattle.normaliser.specs.Normaliser.{normalise_fault, normalised};
 ghost use Rattle.report.specs.Status.{failed};
 ghost use Rattle.report.specs.Rewrite.{Rewrites};
 
-use crate::{FAILED, STDERR_FILENO, STDOUT_FILENO, input, print_refusal, status_by};
+use crate::{STDOUT_FILENO, fail, input, print_refusal, status_by};
 use std::io::Stdin;
 use table::Refusal;
 
-// What the normaliser returned, and whether all was written that follows from it.
+// What the normaliser returned, and whether all was written that follows from it. No Result, since `rewrite` promises the refusal also where its line was
+// not written.
 #[derive(Clone, Copy)]
 pub struct Rewritten {
     pub refusal: Refusal,
@@ -29,12 +30,9 @@ fn write_table(bytes: &[u8], refusal: Refusal) -> bool {
 pub fn rewrite(bytes: &mut [u8]) -> Rewritten
     ensures { (result.refusal ≡ normalise_fault bytes.old) × (bytes.new ≡ normalised bytes.old) }
 {
-    let refusal = normaliser::normalise(&mut *bytes);
-    let written = write_table(&*bytes, refusal);
-    Rewritten {
-        refusal: refusal,
-        written: written,
-    }
+    let refusal = normaliser::normalise(bytes);
+    let written = write_table(bytes, refusal);
+    Rewritten { refusal, written }
 }
 
 // The program `normalise` once its input was read, as bytes and whether a read failed behind them: writes the table or its refusal and gives the
@@ -43,27 +41,24 @@ pub fn conclude(bytes: &mut [u8], unread: bool) -> u8
     ensures { Rewrites bytes.old unread bytes.new result }
 {
     if unread {
-        io::write_all(STDERR_FILENO, b"normalise: standard input cannot be read\n");
-        return FAILED;
+        return fail(b"normalise: standard input cannot be read\n");
     }
-    let done = rewrite(&mut *bytes);
+    let done = rewrite(bytes);
     if !done.written {
-        io::write_all(
-            STDERR_FILENO,
-            b"normalise: standard output cannot be written\n",
-        );
+        return fail(b"normalise: standard output cannot be written\n");
     }
     status_by(done.written, done.refusal)
 }
 
 // The program `normalise` as a function: reads standard input, writes and gives the status to end with.
-// An input that fills the buffer is longer than any table, as in `bounds`.
 #[unsafe(no_mangle)]
 pub extern "C" fn cuorfelt_normalise_program(input: Stdin) -> u8
     ensures { result ≤ failed }
 {
-    let mut buffer = [0u8; 1024];
-    let read = input::read_all(input, &mut buffer);
-    let n = read.count;
-    conclude(&mut buffer[..n], read.failed)
+    input::on_input(
+        input,
+        |bytes, unread|
+            ensures { result ≤ failed }
+        { conclude(bytes, unread) },
+    )
 }

@@ -1,6 +1,5 @@
 -- The status goes by what was written and by the sheet's refusal.
 use Rattle.report.specs.Status.{status_of}
-use borrow.Author.Rules.{rules}
 use Rattle.report.proofs.status.Goals as goal
 
 pub returns : goal.returns

@@ -1,7 +1,6 @@
 -- The status goes by what was written, then by the refusal's number.
 use mathlib.Core.Path.{◌≡◌}
 use mathlib.Core.Bool.{Bool, true}
-use Prim.Native.Nat.{ℕ}
 use borrow.Author.Tests.{eq-eqb, ne_eqb}
 use Rattle.table.specs.declared.Refusal.{Refusal}
 use Rattle.report.specs.Status.{status_by, whole, refused}
@@ -22,5 +21,5 @@ returns-then-not-written c = simp c.if-not-written.true
 pub returns-then-refusal-ne0 : goal.returns-then-refusal-ne0
 returns-then-refusal-ne0 c = refused_by _ _ c.if-not-written.false c.if-refusal-ne0.true
 
-pub returns : goal.returns
-returns c = whole_by _ _ c.if-not-written.false c.if-refusal-ne0.false
+pub returns-else-refusal-ne0 : goal.returns-else-refusal-ne0
+returns-else-refusal-ne0 c = whole_by _ _ c.if-not-written.false c.if-refusal-ne0.false
