@@ -1,18 +1,14 @@
 -- The lowest callbacks of 11, 12 and 14 from the masks of names, kinds and heads (that of 13 is in LoopLaws). Assumes nothing.
--- twice_law, timer_law, wrong_law: 11, 12, 14. heads_are: the mask of the heads. head_last, follower_last: the tests of 14.
-use mathlib.Core.Path.{◌≡◌, refl, sym, ap, ap₂, ◌∙◌}
-use mathlib.Core.Logic.{◌≢◌}
-use mathlib.Core.Bool.{Bool, true, false, not, ◌&&◌}
+-- twice_law, timer_law, wrong_law: 11, 12, 14. heads_are: the mask of the heads.
+use mathlib.Core.Path.{◌≡◌, ap, ap₂, ◌∙◌}
+use mathlib.Core.Bool.{Bool, ◌&&◌}
 use Prim.Native.Nat.{ℕ, ◌-◌, ◌^◌, ◌≤◌}
-use native.Mathlib.Omega.{arith}
-use lib.Dec.{eqb, ltb, leb}
-use borrow.Author.Tests.{eq-eqb, lt-ltb, le-ltb, le-leb, leb-true, leb-false}
+use lib.Dec.{eqb, leb}
 use Rattle.masks.specs.Mask.{has, gather}
 use Rattle.masks.specs.Parts.{both, except, first_index}
 use Rattle.masks.proofs.Gather.{gather_in}
 use Rattle.ranges.specs.Least.{lowest}
 use Rattle.ranges.proofs.LeastLaws.{lowest-same}
-use Rattle.table.specs.declared.Callback.{Callback}
 use Rattle.table.specs.declared.Names.{Names}
 use Rattle.table.specs.declared.Table.{Table}
 use Rattle.numbers.specs.Numbers
@@ -47,24 +43,3 @@ module _ (t : Table) (few : t.count ≤ 16) (s : Names) (names : s ≡ names_of 
       → x ≡ lowest (λ i. arrivals_fault (is_head t i) (callback_at t i)) t.count
   wrong_law h heads x e =
       e ∙ lowest-same _ _ t.count (λ i l. ap (λ (b : Bool). arrivals_fault b (callback_at t i)) (ap (λ (m : ℕ). has m i) (heads_are h heads) ∙ gather_in (is_head t) t.count i l))
-
--- ---- 14: the last test of a head, and of a follower
-
--- a test of the order the other way round
-not_leb : (a b : ℕ) → not (leb a b) ≡ ltb b a
-not_leb a b = go (leb a b) refl
-  where
-    go : (t : Bool) → leb a b ≡ t → not t ≡ ltb b a
-    go true e = sym (le-ltb b a (leb-true a b e))
-    go false e = sym (lt-ltb b a (leb-false a b e))
-
-pub head_last : (c : Callback) → c.period ≢ 0 → c.period ≤ longest → c.jitter ≤ longest → c.distance ≢ 0 → ltb c.period c.distance ≡ arrivals_fault true c
-unfolding arrivals_fault
-head_last c some far jitter distance =
-    let low : leb 1 c.period ≡ true = le-leb 1 c.period (omega arith) in
-    let away : leb 1 c.distance ≡ true = le-leb 1 c.distance (omega arith) in
-    simp (low, le-leb c.period longest far, le-ltb longest c.jitter jitter, away) (sym (not_leb c.distance c.period))
-
-pub follower_last : (c : Callback) → c.period ≡ 0 → c.jitter ≡ 0 → not (eqb c.distance 0) ≡ arrivals_fault false c
-unfolding arrivals_fault
-follower_last c p j = simp (eq-eqb c.period 0 p, eq-eqb c.jitter 0 j)

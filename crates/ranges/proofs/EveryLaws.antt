@@ -1,17 +1,18 @@
 -- Laws of tests, and of tests over the numbers below n.
 -- holds, T_holds: a test as a type and as an equation. never_both, flipped, and_holds, or_fails: of one test and of two.
--- within_passed, within_holds: a number in a range. every: every_at, every_all, every_more, every_miss, every-same. some: some-hit, some-none, some_miss, some_fewer, some_more.
+-- within_passed, within_holds, contains_within: a number in a range. every: every_at, every_all, every_more, every_miss, every-same. some: some-hit, some-none, some_miss, some_fewer, some_more.
 use mathlib.Core.Path.{◌≡◌, refl, sym, ap, ap₂, ◌∙◌, subst}
 use mathlib.Core.Logic.{◌⊎◌, inl, inr}
-use mathlib.Core.Bool.{Bool, true, false, not, ◌&&◌, ◌||◌, or-true, true≢false}
+use mathlib.Core.Bool.{Bool, true, false, not, ◌&&◌, ◌||◌, cond, or-true, true≢false}
 use Prim.Native.Nat.{ℕ, zero, suc, ◌+◌, ◌≤◌, ◌<◌}
 use native.Mathlib.Nat.{eq-or-lt_of_le, le_of_suc-le-suc}
 use native.Mathlib.Numerals.{add-one}
 use native.Mathlib.Omega.{arith}
 use lib.Dec.{T, leb}
-use borrow.Author.Tests.{leb-true, le-leb}
+use borrow.Author.Tests.{leb-true, le-leb, lt-leb, lt-ltb, le-ltb, eq-eqb, ne_eqb}
+use Rattle.std.specs.Ordering.{nat_cmp, is_le, is_lt}
 use Rattle.ranges.specs.Every.{every, some, within}
-use Rattle.ranges.proofs.SumLaws.{one_further}
+use Rattle.ranges.proofs.SumLaws.{one_further, le_or_lt}
 
 -- a test as a type and as an equation
 pub holds : (b : Bool) → T b → b ≡ true
@@ -25,12 +26,12 @@ T_holds b e = subst T (sym e) tt
 pub never_both : (b : Bool) → b ≡ true → b ≡ false → ⊥
 never_both b e f = true≢false (sym e ∙ f)
 
--- both of two tests hold
 -- a test that is turned round
 pub flipped : (a b : Bool) → not a ≡ b → a ≡ not b
 flipped true b e = ap not e
 flipped false b e = ap not e
 
+-- both of two tests hold
 pub and_holds : (a b : Bool) → (a && b) ≡ true → (a ≡ true) × (b ≡ true)
 and_holds true b e = (refl, e)
 and_holds false b e = absurd (never_both false e refl)
@@ -46,6 +47,23 @@ within_passed low high x e = let b = and_holds (leb low x) (leb x high) e in (le
 
 pub within_holds : (low high x : ℕ) → low ≤ x → x ≤ high → within low high x ≡ true
 within_holds low high x l h = ap₂ ◌&&◌ (le-leb low x l) (le-leb x high h)
+
+-- what `contains` of low..=high answers
+le_is : (x y : ℕ) → is_le (nat_cmp x y) ≡ leb x y
+le_is x y = go (le_or_lt y x)
+  where
+    go : (y ≤ x) ⊎ (x < y) → is_le (nat_cmp x y) ≡ leb x y
+    go (inr h) = simp (lt-ltb x y h, le-leb x y (omega arith))
+    go (inl h) = same (eq-or-lt_of_le h)
+      where
+        same : (y ≡ x) ⊎ (y < x) → is_le (nat_cmp x y) ≡ leb x y
+        same (inl e) = simp (le-ltb x y h, eq-eqb x y (sym e), le-leb x y (omega (arith, e)))
+        same (inr l) = simp (le-ltb x y h, ne_eqb x y (λ e. omega (arith, e, l)), lt-leb x y l)
+
+pub contains_within : (low high x a b : ℕ) (spent : Bool) → a ≡ low → b ≡ high → spent ≡ false
+    → (is_le (nat_cmp a x) && cond spent (is_lt (nat_cmp x b)) (is_le (nat_cmp x b))) ≡ within low high x
+contains_within low high x a b spent start end fresh =
+    ap₂ ◌&&◌ (le_is a x ∙ ap (λ (l : ℕ). leb l x) start) (ap (λ (s : Bool). cond s (is_lt (nat_cmp x b)) (is_le (nat_cmp x b))) fresh ∙ le_is x b ∙ ap (leb x) end)
 
 module _ (p : ℕ → Bool) where
   pub every_at : (n : ℕ) → every n p ≡ true → (i : ℕ) → i < n → p i ≡ true

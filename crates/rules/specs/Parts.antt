@@ -1,12 +1,18 @@
--- What holds of every table without faults, as the functions of reader, analyser and machine ask for it.
-use Rattle.std.specs.Prelude.{◌≡◌, ◌≢◌, true, false, ℕ, suc, ◌≤◌, ◌<◌, length}
+-- What a record's test gives; what holds of every table without faults, as the functions of reader, analyser and machine ask for it.
+use Rattle.std.specs.Prelude.{◌≡◌, ◌≢◌, true, false, ℕ, suc, ◌≤◌, ◌<◌, length, Result, Ok, Err}
 use Rattle.numbers.specs.Numbers.{places, entry_places, longest, edition_two, timer, client}
 use Rattle.curves.specs.Cost.{entry}
 use Rattle.curves.specs.Parts.{RisingEntries}
 use Rattle.table.specs.declared.Table.{Table}
 use Rattle.table.specs.Values.{callback_at, kind_of, next_of, entries_of}
+use Rattle.table.specs.Rows.{number_of}
+use Rattle.table.specs.declared.rows.Row.{Row}
 use Rattle.table.specs.Walk.{walk}
 use Rattle.table.specs.Links.{is_head}
+
+-- the number that a record's test gives, 0 where it is passed
+abbrev pub row_number : Result (Unit {0}) Row → ℕ
+row_number r = elim r [ Ok _ ↦ 0 | Err row ↦ number_of row ]
 
 -- what the tests leave: the header, the record of each slot, the links, the arrivals
 pub record Sound (t : Table) : Type 0 where

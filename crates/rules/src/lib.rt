@@ -7,33 +7,24 @@ ghost use Rattle.std.specs.Prelude.{◌≡◌, not, ◌&&◌, ℕ, ◌≤◌, �
 ghost use Rattle.ranges.specs.Every.{every};
 ghost use Rattle.numbers.specs.Numbers.{places};
 ghost use Rattle.table.specs.Values.{unless};
+ghost use Rattle.rules.specs.Parts.{row_number};
 ghost use Rattle.rules.specs.Rules.{head_fault, supply_fault, entries_fault, joins, sums_fault, unused_fault, record_fault_by, records_by, body_by, fault_of};
 
-use link_rules::links_fault;
-use numbers::{
-    ABOVE_SUM, CLIENT, EDITION_ONE, EDITION_TWO, ENTRY_PLACES, LONGEST, PLACES, SPARE_NOT_ZERO,
-    TIMER, UNKNOWN_EDITION, WRONG_COUNT, WRONG_DELAY, WRONG_ENTRIES, WRONG_HORIZON, WRONG_KIND,
-    WRONG_NEXT, WRONG_SUPPLY,
-};
-use table::{Callback, Refusal, Table, refused};
+use link_rules::check_links;
+use numbers::{EDITION_ONE, EDITION_TWO, ENTRY_PLACES, LONGEST, PLACES};
+use table::{Callback, Kind, Refusal, Row, Table};
 
-// What is wrong with edition and count; number 0 where nothing is.
-pub fn head_fault(edition: u8, count: u8) -> Refusal
-    ensures { result ≡ head_fault edition count }
+// Refuses a wrong edition, then a wrong count.
+pub fn check_head(edition: u8, count: u8) -> Result<(), Refusal>
+    ensures { result ≡ unless (head_fault edition count) tt }
 {
-    if edition < EDITION_ONE {
-        return refused(UNKNOWN_EDITION, 0);
+    if !(EDITION_ONE..=EDITION_TWO).contains(&edition) {
+        return Err(Row::UnknownEdition.at(0));
     }
-    if edition > EDITION_TWO {
-        return refused(UNKNOWN_EDITION, 0);
+    if !(1..=PLACES).contains(&count) {
+        return Err(Row::WrongCount.at(0));
     }
-    if count == 0 {
-        return refused(WRONG_COUNT, 0);
-    }
-    if count > PLACES {
-        return refused(WRONG_COUNT, 0);
-    }
-    refused(0, 0)
+    Ok(())
 }
 
 // Whether budget and period are against the rules.
@@ -96,118 +87,97 @@ fn unused_fault(c: Callback) -> bool
         .any(|&entry| entry != 0)
 }
 
-// The number that a record of n is refused with, 0 where it is not.
-fn record_fault(n: u8, c: Callback, spare: bool, sums: bool) -> u8
-    ensures { result ≡ record_fault_by sums n c spare }
+// Refuses a record of n: the row, 8, 9, 10, 24 or 5.
+fn check_record(n: u8, c: Callback, spare: bool, sums: bool) -> Result<(), Row>
+    ensures { row_number result ≡ record_fault_by sums n c spare }
 {
-    if c.kind < TIMER {
-        return WRONG_KIND;
-    }
-    if c.kind > CLIENT {
-        return WRONG_KIND;
+    if Kind::try_from(c.kind).is_err() {
+        return Err(Row::WrongKind);
     }
     if c.next > n {
-        return WRONG_NEXT;
+        return Err(Row::WrongNext);
     }
     if entries_fault(c) {
-        return WRONG_ENTRIES;
+        return Err(Row::WrongEntries);
     }
     if sums_fault(c, sums) {
-        return ABOVE_SUM;
+        return Err(Row::AboveSum);
     }
-    if unused_fault(c) {
-        return SPARE_NOT_ZERO;
-    }
-    if spare {
-        return SPARE_NOT_ZERO;
-    }
-    0
-}
-
-// What is wrong with the first record that is refused; the mask has the records with a spare byte not zero.
-fn records_fault(t: Table, spares: u16, sums: bool) -> Refusal
-    requires { t.count ≤ places }
-    ensures { result ≡ records_by sums spares t t.count 0 }
-{
-    let n = t.count;
-    let mut i: u8 = 0;
-    while i < n {
-        let c = t.callbacks[i as usize];
-        let spare = masks::test_slot(spares, i as u16);
-        let number = record_fault(n, c, spare, sums);
-        if number != 0 {
-            return refused(number, i + 1);
-        }
-        i += 1;
-    }
-    refused(0, 0)
-}
-
-// What is wrong with a table besides its edition and count; `spare` says that a spare byte of the header is not zero, `sums` that 24 is tested.
-pub fn body_fault(t: Table, spare: bool, spares: u16, sums: bool) -> Refusal
-    requires { t.count ≤ places }
-    ensures { result ≡ body_by sums spare spares t }
-{
-    if spare {
-        return refused(SPARE_NOT_ZERO, 0);
-    }
-    if supply_fault(t.budget, t.period) {
-        return refused(WRONG_SUPPLY, 0);
-    }
-    if t.delay > LONGEST {
-        return refused(WRONG_DELAY, 0);
-    }
-    if t.horizon > LONGEST {
-        return refused(WRONG_HORIZON, 0);
-    }
-    let r = records_fault(t, spares, sums);
-    if r.number != 0 {
-        return r;
-    }
-    links_fault(t)
-}
-
-// What is wrong with a table given as values; number 0 where nothing is.
-pub fn fault(t: Table) -> Refusal
-    ensures { result ≡ fault_of t }
-{
-    let head = head_fault(t.edition, t.count);
-    if head.number != 0 {
-        return head;
-    }
-    body_fault(t, false, 0, true)
-}
-
-// Edition and count.
-pub fn check_head(edition: u8, count: u8) -> Result<(), Refusal>
-    ensures { result ≡ unless (head_fault edition count) tt }
-{
-    let refusal = head_fault(edition, count);
-    if refusal.number != 0 {
-        return Err(refusal);
+    if unused_fault(c) || spare {
+        return Err(Row::SpareNotZero);
     }
     Ok(())
 }
 
-// A table besides its edition and count; `spare` says that a spare byte of the header is not zero, `sums` that 24 is tested.
+// Refuses the first record that is wrong; the mask has the records with a spare byte not zero.
+fn check_records(t: Table, spares: u16, sums: bool) -> Result<(), Refusal>
+    requires { t.count ≤ places }
+    ensures { result ≡ unless (records_by sums spares t t.count 0) tt }
+{
+    for i in 0..t.count {
+        let spare = masks::test_slot(spares, i as u16);
+        if let Err(row) = check_record(t.count, t.callbacks[i as usize], spare, sums) {
+            return Err(row.at(i + 1));
+        }
+    }
+    Ok(())
+}
+
+// Refuses a table for what is wrong besides its edition and count; `spare` says that a spare byte of the header is not zero, `sums` that 24 is tested.
 pub fn check_body(t: Table, spare: bool, spares: u16, sums: bool) -> Result<(), Refusal>
     requires { t.count ≤ places }
     ensures { result ≡ unless (body_by sums spare spares t) tt }
 {
-    let refusal = body_fault(t, spare, spares, sums);
-    if refusal.number != 0 {
-        return Err(refusal);
+    if spare {
+        return Err(Row::SpareNotZero.at(0));
     }
-    Ok(())
+    if supply_fault(t.budget, t.period) {
+        return Err(Row::WrongSupply.at(0));
+    }
+    if t.delay > LONGEST {
+        return Err(Row::WrongDelay.at(0));
+    }
+    if t.horizon > LONGEST {
+        return Err(Row::WrongHorizon.at(0));
+    }
+    check_records(t, spares, sums)?;
+    check_links(t)
 }
 
-// A table given as values.
+// Refuses a table given as values.
 pub fn check(t: Table) -> Result<(), Refusal>
     ensures { result ≡ unless (fault_of t) tt }
 {
-    let refusal = fault(t);
-    if refusal.number != 0 {
-        return Err(refusal);
+    check_head(t.edition, t.count)?;
+    check_body(t, false, 0, true)
+}
+
+// The old forms, until nobody calls them.
+
+pub fn head_fault(edition: u8, count: u8) -> Refusal
+    ensures { result ≡ head_fault edition count }
+{
+    match check_head(edition, count) {
+        Ok(()) => table::refused(0, 0),
+        Err(refusal) => refusal,
     }
-    Ok(())
+}
+
+pub fn body_fault(t: Table, spare: bool, spares: u16, sums: bool) -> Refusal
+    requires { t.count ≤ places }
+    ensures { result ≡ body_by sums spare spares t }
+{
+    match check_body(t, spare, spares, sums) {
+        Ok(()) => table::refused(0, 0),
+        Err(refusal) => refusal,
+    }
+}
+
+pub fn fault(t: Table) -> Refusal
+    ensures { result ≡ fault_of t }
+{
+    match check(t) {
+        Ok(()) => table::refused(0, 0),
+        Err(refusal) => refusal,
+    }
 }

@@ -1,35 +1,33 @@
 use mathlib.Core.Path.{◌≡◌, sym, ap, ◌∙◌}
-use mathlib.Core.Bool.{Bool, true, false}
-use native.Mathlib.Omega.{arith}
+use mathlib.Core.Bool.{Bool}
+use native.Mathlib.Numerals.{add-one}
+use Rattle.std.specs.Prelude.{Some}
+use Prim.Native.Nat.{ℕ}
+use Rattle.masks.specs.Mask.{has}
+use Rattle.table.specs.declared.Table.{Table}
+use Rattle.masks.specs.Parts.{some_index}
 use Rattle.ranges.proofs.LeastLaws.{slots_start, slots_end, slots_hit, slots_miss}
 use Rattle.table.specs.Values.{callback_at}
 use Rattle.link_rules.specs.LinkRules.{arrivals_fault}
 use Rattle.link_rules.proofs.first_wrong.Invariants.{wrong}
 use Rattle.link_rules.proofs.first_wrong.Goals as goal
-use Rattle.link_rules.proofs.first_wrong.Goals.{Else-arrivals_fault, Then-arrivals_fault}
 
 pub loop-i-init : goal.loop-i-init
-loop-i-init c = (omega arith, slots_start _ _)
+loop-i-init c = slots_start _ _
 
-is_wrong : (c : Then-arrivals_fault) → wrong c.before.before.before.before.before.before.args.heads c.before.before.before.before.before.before.args.t c.before.before.before.before.before.loop-i.i ≡ true
-is_wrong c =
-    ap (λ (h : Bool). arrivals_fault h (callback_at c.before.before.before.before.before.before.args.t c.before.before.before.before.before.loop-i.i)) (sym c.before.before.test_slot-head.ensures) ∙ sym c.before.arrivals_fault.ensures ∙ c.if-arrivals_fault.true
-
-not_wrong : (c : Else-arrivals_fault) → wrong c.before.before.before.before.before.before.args.heads c.before.before.before.before.before.before.args.t c.before.before.before.before.before.loop-i.i ≡ false
-not_wrong c =
-    ap (λ (h : Bool). arrivals_fault h (callback_at c.before.before.before.before.before.before.args.t c.before.before.before.before.before.loop-i.i)) (sym c.before.before.test_slot-head.ensures) ∙ sym c.before.arrivals_fault.ensures ∙ c.if-arrivals_fault.false
+-- what the code finds of a slot
+found : (heads : ℕ) (t : Table) (i : ℕ) (head b : Bool) → head ≡ has heads i → b ≡ arrivals_fault head (callback_at t i) → wrong heads t i ≡ b
+found heads t i head b test fault = ap (λ (h : Bool). arrivals_fault h (callback_at t i)) (sym test) ∙ sym fault
 
 pub returns-then-arrivals_fault : goal.returns-then-arrivals_fault
 returns-then-arrivals_fault c =
-    let l = c.before.before.before.before.before.loop-i in
-    sym (sym l.invariant.1 ∙ slots_hit _ _ l.i c.before.before.before.before.loop-i-test.true (is_wrong c))
+    let is = found c.args.heads c.args.t c.loop-i.i _ _ c.test_slot-head.ensures c.arrivals_fault.ensures in
+    ap Some (add-one c.loop-i.i) ∙ ap some_index (sym (add-one c.loop-i.i) ∙ sym (slots_hit _ _ c.loop-i.i c.loop-i-test.true (is ∙ c.if-arrivals_fault.true)) ∙ c.loop-i.invariant)
 
 pub loop-i-preserved : goal.loop-i-preserved
 loop-i-preserved c =
-    let l = c.before.before.before.before.before.loop-i in
-    (omega arith, sym (slots_miss _ _ l.i c.before.before.before.before.loop-i-test.true (not_wrong c)) ∙ l.invariant.1)
+    let is = found c.args.heads c.args.t c.loop-i.i _ _ c.test_slot-head.ensures c.arrivals_fault.ensures in
+    sym (slots_miss _ _ c.loop-i.i c.loop-i-test.true (is ∙ c.if-arrivals_fault.false)) ∙ c.loop-i.invariant
 
 pub returns : goal.returns
-returns c =
-    let l = c.before.loop-i in
-    sym (sym l.invariant.1 ∙ slots_end _ _ l.i c.loop-i-test.false)
+returns c = ap some_index (sym (slots_end _ _ c.loop-i.i c.loop-i-test.false) ∙ c.loop-i.invariant)

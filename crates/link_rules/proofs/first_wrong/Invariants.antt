@@ -1,7 +1,7 @@
 -- `first_wrong` meets its contract: what is left of the search at i is the whole. Assumes nothing.
 use mathlib.Core.Path.{◌≡◌}
 use mathlib.Core.Bool.{Bool}
-use Prim.Native.Nat.{ℕ, ◌≤◌, ◌-◌}
+use Prim.Native.Nat.{ℕ}
 use Rattle.masks.specs.Mask.{has}
 use Rattle.ranges.specs.Least.{lowest}
 use Rattle.ranges.proofs.LeastLaws.{rest_slots}
@@ -14,7 +14,4 @@ abbrev pub wrong : ℕ → Table → ℕ → Bool
 wrong heads t i = arrivals_fault (has heads i) (callback_at t i)
 
 abbrev pub invariant-loop-i : goal.invariant-loop-i
-invariant-loop-i l = (l.i ≤ l.t.count) × (rest_slots (wrong l.heads l.t) l.t.count l.i ≡ lowest (wrong l.heads l.t) l.t.count)
-
-abbrev pub decreases-loop-i : goal.decreases-loop-i
-decreases-loop-i l = l.n - l.i
+invariant-loop-i l = rest_slots (wrong l.heads l.t) l.t.count l.i ≡ lowest (wrong l.heads l.t) l.t.count

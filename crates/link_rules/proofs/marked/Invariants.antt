@@ -5,8 +5,5 @@ use Rattle.table.specs.Values.{next_of}
 use Rattle.link_rules.specs.Parts.{marks}
 use Rattle.link_rules.proofs.marked.Given as goal
 
-abbrev pub invariant-loop-k : goal.invariant-loop-k
-invariant-loop-k l = (l.k ≤ l.t.count) × (l.at ≤ l.t.count) × (marks (next_of l.t) (l.t.count - l.k) l.at l.met ≡ marks (next_of l.t) l.t.count l.x l.mask)
-
-abbrev pub decreases-loop-k : goal.decreases-loop-k
-decreases-loop-k l = l.n - l.k
+abbrev pub invariant-loop : goal.invariant-loop
+invariant-loop l = (l.at ≤ l.t.count) × (marks (next_of l.t) (l.t.count - l.counter) l.at l.met ≡ marks (next_of l.t) l.t.count l.x l.mask)

@@ -1,11 +1,7 @@
 -- `reached` meets its contract: after i slots, what the heads below i reach. Assumes nothing.
 use mathlib.Core.Path.{◌≡◌}
-use Prim.Native.Nat.{◌-◌, ◌≤◌}
 use Rattle.link_rules.specs.Parts.{reached_to}
 use Rattle.link_rules.proofs.reached.Given as goal
 
 abbrev pub invariant-loop-i : goal.invariant-loop-i
-invariant-loop-i l = (l.i ≤ l.t.count) × (l.met ≡ reached_to l.t l.heads l.i)
-
-abbrev pub decreases-loop-i : goal.decreases-loop-i
-decreases-loop-i l = l.n - l.i
+invariant-loop-i l = l.met ≡ reached_to l.t l.heads l.i
