@@ -1,9 +1,12 @@
 -- The head of a chain, found back along the names. Assumes nothing.
 -- feed_none, feed_set, fed_start, fed_more: the feeders, from the last record to the first. head_start, head_top, head_up, head_end: the way back.
 use mathlib.Core.Path.{◌≡◌, refl, sym, ap, ◌∙◌}
-use mathlib.Core.Logic.{◌≢◌}
+use mathlib.Core.Logic.{◌⊎◌, inl, inr, ◌≢◌}
 use mathlib.Core.Bool.{Bool, true, false, cond}
 use mathlib.Core.List.{List}
+use Rattle.std.specs.Prelude.{Option, Some, None}
+use Rattle.masks.specs.Parts.{some_index}
+use native.Mathlib.Numerals.{add-one}
 use Prim.Native.Nat.{ℕ, zero, suc, ◌+◌, ◌-◌, ◌≤◌, ◌<◌}
 use native.Mathlib.Decide.{ℕ_discrete}
 use native.Mathlib.Omega.{arith}
@@ -19,40 +22,50 @@ use Rattle.chains.specs.Chains.{feeder, head_from, head_of}
 
 -- ---- the feeders
 
-pub feed_none : (next index i x : ℕ) → next ≢ suc i → x ≡ cond (eqb next (suc i)) index x
-feed_none next index i x h = simp (ne_eqb next (suc i) h)
+-- nothing is written for slot i
+pub feed_none : (next i : ℕ) (x y : Option ℕ) → i < 16 → ((next ≢ 0) × (16 < next)) ⊎ (next ≡ 0) → y ≡ cond (eqb next (suc i)) x y
+feed_none next i x y l (inl h) = simp (ne_eqb next (suc i) (λ e. omega (arith, h.1)))
+feed_none next i x y l (inr h) = simp (ne_eqb next (suc i) (λ e. omega arith))
 
-pub feed_set : (f : List ℕ) (next index i : ℕ) → length f ≡ 16 → next ≢ 0 → i < 16 → get_or (set f (next - 1) index) i 0 ≡ cond (eqb next (suc i)) index (get_or f i 0)
-feed_set f next index i l some h = go (ℕ_discrete next (suc i))
+pub feed_set : (f : List (Option ℕ)) (next i : ℕ) (x : Option ℕ) → length f ≡ 16 → next ≢ 0 → i < 16
+    → get_or (set f (next - 1) x) i None ≡ cond (eqb next (suc i)) x (get_or f i None)
+feed_set f next i x l some h = go (ℕ_discrete next (suc i))
   where
-    go : Dec (next ≡ suc i) → get_or (set f (next - 1) index) i 0 ≡ cond (eqb next (suc i)) index (get_or f i 0)
+    go : Dec (next ≡ suc i) → get_or (set f (next - 1) x) i None ≡ cond (eqb next (suc i)) x (get_or f i None)
     go (yes e) =
         let s : next - 1 ≡ i = omega arith in
-        simp (eq-eqb next (suc i) e, s) (get_or-set_same f i index 0 (omega arith))
-    go (no e) = simp (ne_eqb next (suc i) e) (get_or-set_other f (next - 1) i index 0 (λ q. e (omega arith)))
+        simp (eq-eqb next (suc i) e, s) (get_or-set_same f i x None (omega arith))
+    go (no e) = simp (ne_eqb next (suc i) e) (get_or-set_other f (next - 1) i x None (λ q. e (omega arith)))
 
 -- who names slot i
 abbrev pub naming : Table → ℕ → ℕ → Bool
 naming t i p = linked t p i
 
-pub fed_start : (t : Table) (i : ℕ) → i < 16 → get_or (replicate 16 0) i 0 ≡ rest_slots (naming t i) t.count t.count
-fed_start t i h = get_or-replicate 16 i 0 0 h ∙ sym (slots_end (naming t i) t.count t.count (omega arith))
+pub fed_start : (t : Table) (i : ℕ) → i < 16 → get_or (replicate {A = Option ℕ} 16 None) i None ≡ some_index (rest_slots (naming t i) t.count t.count)
+fed_start t i h = get_or-replicate 16 i None None h ∙ ap some_index (sym (slots_end (naming t i) t.count t.count (omega arith)))
 
-pub fed_more : (t : Table) (i p x y : ℕ) → 0 < p → p ≤ t.count → x ≡ cond (eqb (next_of t (p - 1)) (suc i)) p y → y ≡ rest_slots (naming t i) t.count p
-    → x ≡ rest_slots (naming t i) t.count (p - 1)
+some_next : (p : ℕ) → Some (p + 1) ≡ some_index (p + 1)
+some_next p = ap Some (add-one p) ∙ ap some_index (sym (add-one p))
+
+pub fed_more : (t : Table) (i p : ℕ) (x y : Option ℕ) → 0 < p → p ≤ t.count → x ≡ cond (eqb (next_of t (p - 1)) (suc i)) (Some (p - 1 + 1)) y
+    → y ≡ some_index (rest_slots (naming t i) t.count p) → x ≡ some_index (rest_slots (naming t i) t.count (p - 1))
 unfolding linked
 fed_more t i p x y some few e so = go (eqb (next_of t (p - 1)) (suc i)) refl
   where
     back : p - 1 + 1 ≡ p
     back = omega arith
 
-    go : (b : Bool) → eqb (next_of t (p - 1)) (suc i) ≡ b → x ≡ rest_slots (naming t i) t.count (p - 1)
-    go true f = e ∙ ap (λ (b : Bool). cond b p y) f ∙ sym (slots_hit (naming t i) t.count (p - 1) (omega arith) f ∙ back)
+    go : (b : Bool) → eqb (next_of t (p - 1)) (suc i) ≡ b → x ≡ some_index (rest_slots (naming t i) t.count (p - 1))
+    go true f =
+        e
+        ∙ ap (λ (b : Bool). cond b (Some (p - 1 + 1)) y) f
+        ∙ some_next (p - 1)
+        ∙ ap some_index (sym (slots_hit (naming t i) t.count (p - 1) (omega arith) f))
     go false f =
         e
-        ∙ ap (λ (b : Bool). cond b p y) f
+        ∙ ap (λ (b : Bool). cond b (Some (p - 1 + 1)) y) f
         ∙ so
-        ∙ sym (slots_miss (naming t i) t.count (p - 1) (omega arith) f ∙ ap (rest_slots (naming t i) t.count) back)
+        ∙ ap some_index (sym (slots_miss (naming t i) t.count (p - 1) (omega arith) f ∙ ap (rest_slots (naming t i) t.count) back))
 
 pub fed_end : (t : Table) (i p : ℕ) → p ≤ 0 → rest_slots (naming t i) t.count p ≡ feeder t i
 unfolding feeder

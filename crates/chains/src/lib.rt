@@ -2,47 +2,27 @@
 
 #![tactic(auto)]
 
-ghost use Rattle.std.specs.Prelude.{◌≡◌, true, false, cond, ℕ, suc, ◌≤◌, ◌<◌, eqb, get_or};
+ghost use Rattle.std.specs.Prelude.{◌≡◌, ℕ, ◌≤◌, ◌<◌, get_or, None};
+ghost use Rattle.masks.specs.Parts.{some_index};
 ghost use Rattle.numbers.specs.Numbers.{places};
 ghost use Rattle.chains.specs.Chains.{feeder, head_of};
 
 use numbers::PLACES;
 use table::Table;
 
-// For each slot the lowest callback that names it, as an index, 0 where none does.
-#[derive(Clone, Copy)]
-struct Fed {
-    by: [u8; 16],
-}
-
-// The feeders, with index written for the callback that next names; nothing is written where next is 0 or beyond the places.
-fn feed(feeders: Fed, next: u8, index: u8) -> Fed
-    ensures { (i : ℕ) → i < places → get_or result.by i 0 ≡ cond (eqb next (suc i)) index (get_or feeders.by i 0) }
-{
-    let mut f = feeders;
-    if next == 0 {
-        return f;
-    }
-    if next > PLACES {
-        return f;
-    }
-    f.by[(next - 1) as usize] = index;
-    f
-}
-
-// The feeders of a table, from the last record to the first, so that the lowest stays.
-fn feeders(t: Table) -> Fed
+// For each slot the lowest callback that names it, as an index. From the last record to the first, so that the lowest stays.
+fn feeders(t: Table) -> [Option<u8>; 16]
     requires { t.count ≤ places }
-    ensures { (i : ℕ) → i < places → get_or result.by i 0 ≡ feeder t i }
+    ensures { (i : ℕ) → i < places → get_or result i None ≡ some_index (feeder t i) }
 {
-    let mut f = Fed { by: [0; 16] };
-    let mut p = t.count;
-    while p > 0 {
-        let c = t.callbacks[(p - 1) as usize];
-        f = feed(f, c.next, p);
-        p -= 1;
+    let mut by = [None; 16];
+    for i in (0..t.count).rev() {
+        let next = t.callbacks[i as usize].next;
+        if next != 0 && next <= PLACES {
+            by[(next - 1) as usize] = Some(i + 1);
+        }
     }
-    f
+    by
 }
 
 // The slot of the head from which next leads to this slot, count steps back at most; a head's is itself.
@@ -50,16 +30,13 @@ pub fn head(t: Table, slot: u8) -> u8
     requires { (t.count ≤ places) × (slot < places) }
     ensures { result ≡ head_of t slot }
 {
-    let f = feeders(t);
+    let by = feeders(t);
     let mut x = slot;
-    let mut k: u8 = 0;
-    while k < t.count {
-        let p = f.by[x as usize];
-        if p == 0 {
+    for _step in 0..t.count {
+        let Some(p) = by[x as usize] else {
             return x;
-        }
+        };
         x = p - 1;
-        k += 1;
     }
     x
 }

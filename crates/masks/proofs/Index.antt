@@ -1,5 +1,5 @@
 -- The first slot of a mask as an index: the lowest slot that passes, where the mask has just the slots that do. Assumes nothing.
--- index_none, index_some: by whether the mask has a slot. is_none, is_some: what an index that may be missing says. first_lowest, first_gather, first_both: of a mask, of one gathered, of two together.
+-- index_none, index_some: by whether the mask has a slot. is_none, is_some, not_some: what an index that may be missing says. first_lowest, first_gather, first_both: of a mask, of one gathered, of two together.
 use mathlib.Core.Path.{◌≡◌, refl, ap, ap₂, ◌∙◌}
 use mathlib.Core.Logic.{◌≢◌}
 use mathlib.Core.Bool.{Bool, true, false, ◌&&◌, and_assoc}
@@ -14,7 +14,7 @@ use Rattle.ranges.proofs.LeastLaws.{lowest-hit, lowest_first, lowest-none}
 use Rattle.ranges.proofs.EveryLaws.{never_both}
 use Rattle.masks.specs.Mask.{has, gather}
 use Rattle.masks.specs.Parts.{both, first_of, first_index, some_index}
-use Rattle.std.specs.Prelude.{Some, None}
+use Rattle.std.specs.Prelude.{Option, Some, None}
 use Rattle.masks.proofs.Slots.{has_and, has_zero, mask_none}
 use Rattle.masks.proofs.Search.{first_is}
 use Rattle.masks.proofs.Gather.{gather-has, gather_mask}
@@ -35,6 +35,10 @@ is_none (suc i) e = absurd (cc)
 pub is_some : (x y : ℕ) → Some y ≡ some_index x → (x ≡ y) × (x ≢ 0)
 is_some zero y e = absurd (cc)
 is_some (suc i) y e = (cc, λ z. omega arith)
+
+pub not_some : (x : ℕ) (r : Option ℕ) → r ≡ some_index x → ((y : ℕ) → r ≡ Some y → ⊥) → x ≡ 0
+not_some zero r e none = refl
+not_some (suc i) r e none = absurd (none (suc i) e)
 
 module _ (q : ℕ → Bool) (n : ℕ) (le : n ≤ 16) where
   -- a mask that has just the slots below n that pass

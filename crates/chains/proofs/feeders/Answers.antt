@@ -1,18 +1,23 @@
-use mathlib.Core.Path.{◌∙◌}
-use native.Mathlib.Omega.{arith}
-use Rattle.chains.proofs.ChainLaws.{fed_start, fed_more, fed_end}
+use mathlib.Core.Path.{refl, ap, ◌∙◌}
+use lib.ListN.{length-set}
+use Rattle.masks.specs.Parts.{some_index}
+use Rattle.chains.proofs.ChainLaws.{feed_none, feed_set, fed_start, fed_more, fed_end}
 use Rattle.chains.proofs.feeders.Goals as goal
 
-pub loop-p-init : goal.loop-p-init
-loop-p-init c = (omega arith, λ i h. fed_start c.args.t i h)
+pub loop-i-init : goal.loop-i-init
+loop-i-init c = (refl, λ i h. fed_start c.args.t i h)
 
-pub loop-p-preserved : goal.loop-p-preserved
-loop-p-preserved c =
-    let t = c.before.before.before.before.args.t in
-    let l = c.before.before.before.loop-p in
-    (omega arith, λ i h. fed_more t i l.p _ _ c.before.before.loop-p-test.true l.invariant.0 (c.feed-f.ensures i h) (l.invariant.1 i h))
+pub loop-i-preserved-then-next-le-PLACES : goal.loop-i-preserved-then-next-le-PLACES
+loop-i-preserved-then-next-le-PLACES c =
+    let l = c.loop-i in (
+      length-set l.by _ _ ∙ l.invariant.0,
+      λ i h. fed_more c.args.t i l.i _ _ c.loop-i-test.true l.auto.i (feed_set l.by _ i _ l.invariant.0 c.if-next-ne0.true h) (l.invariant.1 i h),
+    )
+
+pub loop-i-preserved : goal.loop-i-preserved
+loop-i-preserved c =
+    let l = c.loop-i in
+    (l.invariant.0, λ i h. fed_more c.args.t i l.i _ _ c.loop-i-test.true l.auto.i (feed_none _ i _ _ h c.else-next-ne0.either) (l.invariant.1 i h))
 
 pub returns : goal.returns
-returns c =
-    let l = c.before.loop-p in
-    λ i h. l.invariant.1 i h ∙ fed_end c.before.before.args.t i l.p c.loop-p-test.false
+returns c = λ i h. c.loop-i.invariant.1 i h ∙ ap some_index (fed_end c.args.t i c.loop-i.i c.loop-i-test.false)
