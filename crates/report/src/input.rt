@@ -7,6 +7,7 @@ ghost use Rattle.std.specs.Result.{IfOk};
 use std::io::{Read, Result, Stdin};
 
 // Reads until the buffer is full or the input ends, and returns how many bytes; the error where a read fails.
+// A `while`, since only the system says how far a turn goes; the library's `read_exact` takes an input that ends early for an error.
 pub fn read_all(mut input: Stdin, buf: &mut [u8]) -> Result<usize>
     ensures { IfOk result (λ n. n ≤ length buf.old) }
 {

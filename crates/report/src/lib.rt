@@ -101,7 +101,8 @@ pub fn status(printed: Printed) -> u8
     status_by(printed.written, printed.sheet.refusal)
 }
 
-// A word on standard error and the status that goes with it.
+// A word on standard error and the status that goes with it. Both `conclude` share this alone: one function in their place would have to take the words, what
+// prints and what that promises, which is longer than the two.
 fn fail(words: &[u8]) -> u8
     ensures { result ≡ failed }
 {
