@@ -37,7 +37,7 @@ pub struct Reply {
     pub folded: u16,
 }
 
-// The callback whose instance finished, an index from 1; 0 where none did.
+// The callback whose instance finished, an index from 1; 0 where none did, as a record names its next.
 pub fn finished(outcome: Outcome) -> u8
     ensures { result ≡ finished_of outcome }
 {

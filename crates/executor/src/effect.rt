@@ -36,6 +36,7 @@ impl Machine {
     }
 
     // Step 2: a tick without supply ends with the arrivals.
+    #[tactic(auto, unfolding(crate::specs::Effect::unsupplied))]
     fn unsupplied(self, folded: u16) -> Ticked
         requires { self.clock < most_ticks }
         ensures { result ≡ unsupplied self folded }
@@ -102,7 +103,8 @@ impl Machine {
         }
     }
 
-    // Steps 3 and 4.
+    // Steps 3 and 4. What is asked stays a clause here and twice more: a type with an invariant would have to be built before the
+    // arrivals and again after them, where one more may wait.
     fn serve(self, folded: u16, cost: u16) -> Ticked
         requires { Admissible (most_waiting + 1) self cost }
         ensures { result ≡ served self folded cost }

@@ -17,6 +17,7 @@ use table::{Refusal, Row};
 
 impl Machine {
     // A refused tick: the state stays.
+    #[tactic(auto, unfolding(crate::specs::Tick::refused))]
     fn refuse(self, why: Refusal) -> Ticked
         ensures { result ≡ refused self why }
     {

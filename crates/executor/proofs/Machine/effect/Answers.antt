@@ -13,17 +13,11 @@ arrived : (c : After-arrive-m) → Admissible 256 c.arrive-m.result c.args.cost
 arrived c =
     subst (λ (m : Machine). Admissible 256 m c.args.cost) (sym c.arrive-m.ensures) (admissible_arrived c.args.self _ _ most_waiting c.requires.0 c.requires.1)
 
-pub arrive-m-requires : goal.arrive-m-requires
-arrive-m-requires c = (c.requires.0.room, c.folded-folded.ensures)
-
 pub serve-requires : goal.serve-requires
 serve-requires c = arrived c.before
 
 pub returns-then-supplied : goal.returns-then-supplied
 returns-then-supplied c = c.serve.ensures ∙ effect_supplied c.args.self _ _ _ _ c.folded-folded.ensures _ c.arrive-m.ensures c.if-supplied.true
-
-pub unsupplied-requires : goal.unsupplied-requires
-unsupplied-requires c = (arrived c.before).early
 
 pub returns : goal.returns
 returns c = c.unsupplied.ensures ∙ effect-unsupplied c.args.self _ _ _ _ c.folded-folded.ensures _ c.arrive-m.ensures c.if-supplied.false

@@ -10,8 +10,5 @@ returns-then-index-eq0 c = instance_none c.args.self _ c.if-index-eq0.true
 pub bounds-self-index : goal.bounds-self-index
 bounds-self-index c = (c.requires (c.args.index - 1) (omega arith)).0
 
-pub overflow_add-result : goal.overflow_add-result
-overflow_add-result c = record { fits = omega (arith, (c.requires (c.args.index - 1) (omega arith)).1) }
-
 pub returns : goal.returns
 returns c = instance_some c.args.self _ c.if-index-eq0.false
