@@ -55,16 +55,6 @@ pub fn lowest(mask: u16) -> u16
     first(mask) as u16
 }
 
-// The lowest slot of the mask as an index, 0 where it has none.
-pub fn first_index(mask: u16) -> u8
-    ensures { result ≡ first_index mask }
-{
-    if mask == 0 {
-        return 0;
-    }
-    (first(mask) + 1) as u8
-}
-
 // The lowest slot of the mask as an index.
 pub fn lowest_index(mask: u16) -> Option<u8>
     ensures { result ≡ some_index (first_index mask) }
