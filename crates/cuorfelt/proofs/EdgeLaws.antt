@@ -2,7 +2,7 @@
 -- start_short, start_size, start_refused, start_done, start_new: a start. tick_none, tick_refused, tick_done: a tick.
 use mathlib.Core.Path.{◌≡◌, sym, ap, ◌∙◌}
 use mathlib.Core.Logic.{◌≢◌}
-use mathlib.Core.Bool.{false}
+use mathlib.Core.Bool.{true, false}
 use mathlib.Core.List.{List, ◌++◌}
 use Prim.Native.Nat.{ℕ, ◌<◌, ◌≤◌, ◌-◌}
 use native.Mathlib.Omega.{arith}
@@ -13,12 +13,11 @@ use Rattle.lent.proofs.Replace.{over-over, over_all}
 use Rattle.table.specs.declared.Refusal.{Refusal}
 use Rattle.table.specs.declared.Table.{Table}
 use Rattle.numbers.specs.Numbers.{places, faulty_state}
-use Rattle.table.specs.Values.{refuse}
+use Rattle.table.specs.Values.{refuse, accepted}
 use Rattle.reader.specs.Format.{read_fault}
-use Rattle.reader.proofs.Accepted.{reading_is, read_table, read_passed}
+use Rattle.reader.proofs.Accepted.{zero_by, passed_by, reading_is, read_table, read_passed}
 use Rattle.executor.specs.declared.Machine.{Machine}
 use Rattle.answers.specs.declared.Reply.{Reply}
-use Rattle.executor.specs.declared.Started.{Started}
 use Rattle.executor.specs.declared.Ticked.{Ticked}
 use Rattle.answers.specs.Outcome.{reply_of}
 use Rattle.executor.specs.State.{fresh}
@@ -31,10 +30,10 @@ use Rattle.cuorfelt.specs.Edge.{start_fault, state_started, reply_to, no_state, 
 
 -- ---- a start, of a table's bytes b in lent bytes s
 
-module _ (b : List ℕ) {x : Started} (e : x ≡ start_of b) (h : x.refusal.number ≡ 0) where
+module _ (b : List ℕ) (h : (start_of b).refusal.number ≡ 0) where
   start_accepts : (read_fault b).number ≡ 0
   unfolding start_of
-  start_accepts = ap (λ (r : Refusal). r.number) (sym (reading_is b)) ∙ ap (λ (x : Started). x.refusal.number) (sym e) ∙ h
+  start_accepts = ap (λ (r : Refusal). r.number) (sym (reading_is b)) ∙ h
 
   pub start_size : length b ≤ tail_start
   start_size = omega (arith, (read_passed b start_accepts).fits, (read_passed b start_accepts).head.few)
@@ -66,23 +65,23 @@ module _ (b s : List ℕ) where
       let e : refuse faulty_state 0 ≡ start_fault b s = sym (fault_short h) in
       (e, state_kept (λ z. omega (arith, ap (λ (r : Refusal). r.number) e ∙ z)))
 
-  module _ {x : Started} (long : length s ≡ state_length) (e : x ≡ start_of b) where
-    fault_is : x.refusal ≡ start_fault b s
-    fault_is = ap (λ (x : Started). x.refusal) e ∙ sym (fault_long long)
+  module _ (long : length s ≡ state_length) where
+    fault_is : (start_of b).refusal ≡ start_fault b s
+    fault_is = sym (fault_long long)
 
-    pub start_refused : x.refusal.number ≢ 0 → (x.refusal ≡ start_fault b s) × (s ≡ state_started b s)
+    pub start_refused : (start_of b).refusal.number ≢ 0 → ((start_of b).refusal ≡ start_fault b s) × (s ≡ state_started b s)
     start_refused h = (fault_is, state_kept (λ z. h (ap (λ (r : Refusal). r.number) fault_is ∙ z)))
 
-    pub start_done : {s1 s2 : List ℕ} → x.refusal.number ≡ 0 → ((i : ℕ) → get_or b i 0 < 256)
+    pub start_done : {s1 s2 : List ℕ} → (start_of b).refusal.number ≡ 0 → ((i : ℕ) → get_or b i 0 < 256)
         → s1 ≡ over s 0 b → s2 ≡ over s1 (length b) (replicate (state_length - length b) 0)
-        → (x.refusal ≡ start_fault b s) × (s2 ≡ state_started b s)
+        → (accepted ≡ start_fault b s) × (s2 ≡ state_started b s)
     unfolding start_of
     start_done h bytes e1 e2 =
         let rest : List ℕ = replicate (state_length - length b) 0 in
         let n : length rest ≡ state_length - length b = length-replicate (state_length - length b) 0 in
-        let small : length b ≤ tail_start = start_size b e h in
-        let ok : (read_fault b).number ≡ 0 = start_accepts b e h in (
-          fault_is,
+        let small : length b ≤ tail_start = start_size b h in
+        let ok : (read_fault b).number ≡ 0 = start_accepts b h in (
+          sym (zero_by true b (passed_by true b ok)) ∙ sym (reading_is b) ∙ fault_is,
           e2
               ∙ ap (λ (y : List ℕ). over y (length b) rest) e1
               ∙ over-over s 0 b rest (length b) (omega arith) (omega arith)

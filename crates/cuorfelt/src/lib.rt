@@ -31,8 +31,7 @@ pub extern "C" fn cuorfelt_state_length() -> usize
 pub extern "C" fn cuorfelt_read(table: &[u8]) -> Refusal
     ensures { result ≡ read_fault table.now }
 {
-    let reading = reader::read(table);
-    reading.refusal
+    table::refusal_of(reader::read(table))
 }
 
 // Replaces the cost entries of a table, read by all rules but 24, by the least sums over the ways to split their positions: number 0, or the
@@ -41,7 +40,7 @@ pub extern "C" fn cuorfelt_read(table: &[u8]) -> Refusal
 pub extern "C" fn cuorfelt_normalise(table: &mut [u8]) -> Refusal
     ensures { (result ≡ normalise_fault table.old) × (table.new ≡ normalised table.old) }
 {
-    normaliser::normalise(table)
+    table::refusal_of(normaliser::normalise(table))
 }
 
 // Writes a table into the buffer from its header's numbers and from the records' numbers, fourteen each: its length, or the refusal, which
@@ -81,15 +80,13 @@ pub extern "C" fn cuorfelt_start(table: &[u8], state: &mut [u8]) -> Refusal
     if state.len() != STATE_LENGTH {
         return Row::FaultyState.at(0);
     }
-    let started = executor::Machine::start(table);
-    let why = started.refusal;
-    if why.number != 0 {
+    if let Err(why) = executor::Machine::start(table) {
         return why;
     }
     lent::copy(state, 0, table);
     let end = table.len();
     lent::zero(state, end, STATE_LENGTH - end);
-    why
+    table::refused(0, 0)
 }
 
 // The reply of a tick where the lent bytes are not laid out as a state.

@@ -33,10 +33,3 @@ pub struct Ticked {
     pub gathered: u8,
     pub folded: u16,
 }
-
-// What a start gives: the fresh state, or the refusal beside the state that is zero throughout.
-#[derive(Clone, Copy)]
-pub struct Started {
-    pub refusal: table::Refusal,
-    pub machine: Machine,
-}

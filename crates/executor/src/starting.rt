@@ -1,11 +1,12 @@
 // A machine from a table's bytes.
 
 ghost use Rattle.std.specs.Prelude.{◌≡◌};
+ghost use Rattle.table.specs.Values.{unless};
 ghost use Rattle.executor.specs.State.{fresh};
 ghost use Rattle.executor.specs.Start.{start_of};
 
-use super::{Machine, Started};
-use table::Table;
+use super::Machine;
+use table::{Refusal, Table};
 
 // The fresh state of a table: no tick taken, and nothing waits, runs, is cached or has finished.
 pub fn fresh(t: Table) -> Machine
@@ -23,17 +24,10 @@ pub fn fresh(t: Table) -> Machine
 }
 
 impl Machine {
-    // The fresh state of the table that the bytes hold, or the refusal beside a state that is zero throughout.
-    pub fn start(bytes: &[u8]) -> Started
-        ensures { result ≡ start_of bytes.now }
+    // The fresh state of the table that the bytes hold, or the refusal.
+    pub fn start(bytes: &[u8]) -> Result<Machine, Refusal>
+        ensures { result ≡ unless (start_of bytes.now).refusal (start_of bytes.now).machine }
     {
-        let reading = reader::read(bytes);
-        let t = reading.table;
-        let refusal = reading.refusal;
-        let machine = fresh(t);
-        Started {
-            refusal: refusal,
-            machine: machine,
-        }
+        reader::read(bytes).map(fresh)
     }
 }

@@ -44,16 +44,18 @@ fn print_tick(place: u32, ticked: Ticked) {
     }
 }
 
-// The machine of a table of that length on standard input, or of as many bytes as are left; prints the refusal where there is one.
+// The machine of a table of that length on standard input, or of as many bytes as are left. A refusal is printed, and the state that is zero
+// throughout goes on.
 fn read_start(length: u16) -> Machine {
     let mut buffer = io::large_buffer();
     let bytes = frames::read_up_to(&mut buffer[..usize::from(length)]);
-    let started = Machine::start(bytes);
-    let refusal = started.refusal;
-    if refusal.number != 0 {
-        print_refusal(refusal);
+    match Machine::start(bytes) {
+        Ok(machine) => machine,
+        Err(refusal) => {
+            print_refusal(refusal);
+            executor::starting::fresh(table::blank())
+        }
     }
-    started.machine
 }
 
 // So many ticks of a history on standard input, as far as they are there.

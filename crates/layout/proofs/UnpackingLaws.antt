@@ -1,16 +1,18 @@
 -- The state that bytes hold, test by test. Assumes nothing.
--- none_in, is_in: by the layout. laid_none, laid_some: what an unpacked state says. not_zero, part_number, part_table: the tests.
+-- none_in, is_in: by the layout. laid_none, laid_some: what an unpacked state says. not_zero, part_refused, part_read: the tests.
 use mathlib.Core.Path.{◌≡◌, refl, sym, ap, ◌∙◌}
 use mathlib.Core.Bool.{Bool, true, false, not}
+use mathlib.Core.Logic.{◌≢◌}
 use mathlib.Core.List.{List}
 use Prim.Native.Nat.{ℕ}
 use borrow.Author.Tests.{not-true}
 use Rattle.ranges.proofs.EveryLaws.{never_both}
-use Rattle.std.specs.Prelude.{Option, Some, None, is_some, unwrap_or}
+use Rattle.std.specs.Prelude.{Ok, Err, Option, Some, None, is_some, unwrap_or}
 use Rattle.table.specs.declared.Refusal.{Refusal}
-use Rattle.reader.specs.declared.Reading.{Reading}
-use Rattle.reader.specs.Format.{table_at, read_fault, read_of}
-use Rattle.reader.proofs.Accepted.{reading_is, read_table}
+use Rattle.table.specs.declared.Table.{Table}
+use Rattle.table.specs.Values.{unless}
+use Rattle.table.proofs.RefusalLaws.{err_refused, ok_passed}
+use Rattle.reader.specs.Format.{table_at, read_fault}
 use Rattle.executor.specs.declared.Machine.{Machine}
 use Rattle.layout.specs.Layout.{table_part, laid_out, unpacked}
 use Rattle.layout.specs.Parts.{machine_in}
@@ -49,8 +51,9 @@ pub not_zero : (x y : Bool) → x ≡ y → not x ≡ true → y ≡ true → �
 not_zero x y e f g = never_both x (e ∙ g) (not-true x f)
 
 -- a table read from its own part
-pub part_number : (b : List ℕ) {r : Reading} → r ≡ read_of (table_part b) → r.refusal.number ≡ (read_fault (table_part b)).number
-part_number b e = ap (λ (r : Reading). r.refusal.number) e ∙ ap (λ (r : Refusal). r.number) (reading_is (table_part b))
+pub part_refused : (b : List ℕ) {r : Refusal} → unless (read_fault (table_part b)) (table_at (table_part b)) ≡ Err r → (read_fault (table_part b)).number ≢ 0
+part_refused b e = (err_refused _ _ _ e).1
 
-pub part_table : (b : List ℕ) {r : Reading} → r ≡ read_of (table_part b) → r.refusal.number ≡ 0 → r.table ≡ table_at (table_part b)
-part_table b e g = ap (λ (r : Reading). r.table) e ∙ read_table (table_part b) (sym (part_number b e) ∙ g)
+pub part_read : (b : List ℕ) {t : Table} → unless (read_fault (table_part b)) (table_at (table_part b)) ≡ Ok t
+    → (t ≡ table_at (table_part b)) × ((read_fault (table_part b)).number ≡ 0)
+part_read b e = ok_passed _ _ _ e

@@ -61,9 +61,8 @@ pub fn unpack(state: &[u8]) -> Option<Machine>
     {
         return None;
     }
-    let reading = reader::read_by(&state[..end], true);
-    if reading.refusal.number != 0 {
+    let Ok(t) = reader::read_by(&state[..end], true) else {
         return None;
-    }
-    Some(unpack_with(state, reading.table))
+    };
+    Some(unpack_with(state, t))
 }

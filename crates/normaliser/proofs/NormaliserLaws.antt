@@ -1,5 +1,5 @@
 -- The bytes of a table that is normalised, record by record. Assumes nothing.
--- Taken, taken: what is known of bytes that the reader has taken by all rules but 24.
+-- said_normalise: what C gets. Taken, taken: what is known of bytes that the reader has taken by all rules but 24.
 -- closed_front: the entries of a record that are replaced, out of eight places.
 -- closed_size, closed_more: the bytes stay as many; one record more, as a loop writes it.
 -- normalised-refused, normalised_all: what the normaliser makes of bytes that are refused, and of others.
@@ -21,46 +21,49 @@ use Rattle.lent.proofs.Numbers.{length_run}
 use Rattle.table.specs.declared.Callback.{Callback}
 use Rattle.table.specs.declared.Refusal.{Refusal}
 use Rattle.table.specs.declared.Table.{Table}
-use Rattle.table.specs.Values.{entries_of, callback_at}
-use Rattle.reader.specs.declared.Reading.{Reading}
-use Rattle.reader.specs.Format.{record_at, record_start, table_at, read_by}
-use Rattle.reader.proofs.Accepted.{refusal_by, passed_by, table_by, sound_read, record_by}
+use Rattle.table.specs.Values.{accepted, unless, entries_of, callback_at}
+use Rattle.std.specs.Prelude.{Ok}
+use Rattle.table.proofs.RefusalLaws.{ok_passed}
+use Rattle.reader.specs.Format.{record_at, record_start, table_at, read_fault_by}
+use Rattle.table.specs.Said.{refusal_in}
+use Rattle.reader.proofs.Accepted.{said_by, zero_by, passed_by, sound_read, record_by}
 use Rattle.closure.specs.Closure.{closed}
 use Rattle.closure.proofs.ClosureLaws.{closed-length}
 use Rattle.normaliser.specs.Normaliser.{normalise_fault, closed_to, normalised}
 
 -- ---- what was read
 
-pub record Taken (b : List ℕ) (x : Reading) : Type 0 where
+pub record Taken (b : List ℕ) (t : Table) : Type 0 where
   pub ok : (normalise_fault b).number ≡ 0
-  pub refusal : x.refusal ≡ normalise_fault b
-  pub count : x.table.count ≡ get_or b 1 0
+  pub refusal : accepted ≡ normalise_fault b
+  pub count : t.count ≡ get_or b 1 0
   pub fits : length b ≡ record_start (get_or b 1 0)
   pub few : get_or b 1 0 ≤ places
-  pub slots : (i : ℕ) → i < get_or b 1 0 → callback_at x.table i ≡ record_at b (record_start i)
+  pub slots : (i : ℕ) → i < get_or b 1 0 → callback_at t i ≡ record_at b (record_start i)
   pub used : (i : ℕ) → i < get_or b 1 0 → (record_at b (record_start i)).used ≤ entry_places
 
-pub taken : (b : List ℕ) (x : Reading) → x ≡ read_by false b → x.refusal.number ≡ 0 → Taken b x
+pub taken : (b : List ℕ) (t : Table) → unless (read_fault_by false b) (table_at b) ≡ Ok t → Taken b t
 unfolding table_at fields_at numbers
-taken b x e z =
+taken b t e =
     record {
       ok = ok;
-      refusal = said;
-      count = ap (λ (t : Table). t.count) table;
+      refusal = sym (zero_by false b (passed_by false b ok));
+      count = ap (λ (t : Table). t.count) same;
       fits = (passed_by false b ok).fits;
       few = (passed_by false b ok).head.few;
-      slots = λ i l. ap (λ (t : Table). callback_at t i) table ∙ record_by false b ok i l;
+      slots = λ i l. ap (λ (t : Table). callback_at t i) same ∙ record_by false b ok i l;
       used = λ i l. subst (λ (c : Callback). c.used ≤ entry_places) (record_by false b ok i l) ((sound_read false b ok).entries_few i l);
     }
   where
-    said : x.refusal ≡ normalise_fault b
-    said = ap (λ (r : Reading). r.refusal) e ∙ refusal_by false b
-
     ok : (normalise_fault b).number ≡ 0
-    ok = sym (ap (λ (r : Refusal). r.number) said) ∙ z
+    ok = (ok_passed _ _ _ e).1
 
-    table : x.table ≡ table_at b
-    table = ap (λ (r : Reading). r.table) e ∙ table_by false b ok
+    same : t ≡ table_at b
+    same = (ok_passed _ _ _ e).0
+
+-- what C gets of the normaliser's result
+pub said_normalise : (b : List ℕ) → refusal_in (unless (normalise_fault b) (tt {0})) ≡ normalise_fault b
+said_normalise b = said_by false b (tt {0})
 
 -- ---- what is written
 

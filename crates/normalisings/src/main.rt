@@ -12,7 +12,7 @@ fn report(table: &mut [u8])
     let mut copy = [0u8; frames::LONGEST];
     let before = &mut copy[..table.len()];
     before.copy_from_slice(table);
-    let r = normaliser::normalise(table);
+    let r = table::refusal_of(normaliser::normalise(table));
     frames::print_number(r.number);
     frames::print_fields(&[r.index]);
     if *table != *before {

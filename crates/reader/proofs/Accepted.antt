@@ -1,7 +1,7 @@
 -- What an accepted reading says of the bytes and of the table. Assumes nothing.
 -- read_refused, reading_is: a refused reading, and the refusal that a reading carries.
 -- ReadPassed, read_passed: what bytes with read_fault number 0 have passed. read_spare: each record's spare bytes.
--- refusal_by, ReadPassedBy, passed_by, zero_by, table_by, sound_read, record_by: the same of bytes that were read with 24 tested or not.
+-- said_by: what C gets of the result. refusal_by, ReadPassedBy, passed_by, zero_by, table_by, sound_read, record_by: the same of bytes that were read with 24 tested or not.
 -- read_accepted, read_sound, read_table: their table has no fault, is sound, and is what is read. read_record, read_blank: its places.
 use mathlib.Core.Path.{◌≡◌, refl, sym, ap, ◌∙◌}
 use mathlib.Core.Logic.{◌⊎◌, inl, inr, ◌≢◌}
@@ -18,15 +18,16 @@ use Rattle.numbers.specs.Numbers.{places, header_length, wrong_length}
 use Rattle.masks.proofs.Gather.{gather_in}
 use Rattle.lent.specs.Bytes.{numbers, fields_at}
 use Rattle.table.specs.declared.Refusal.{Refusal}
-use Rattle.table.specs.Values.{accepted, blank, callback_at}
+use Rattle.table.specs.Said.{refusal_in}
+use Rattle.table.proofs.SaidLaws.{refusal_unless}
+use Rattle.table.specs.Values.{accepted, unless, blank, callback_at}
 use Rattle.table.proofs.RefusalLaws.{first_passed, both_passed}
 use Rattle.table.proofs.PlacedLaws.{placed_in, placed_out}
 use Rattle.rules.specs.Rules.{head_fault, fault_of}
 use Rattle.rules.specs.Parts.{Sound}
 use Rattle.rules.proofs.Passed.{test_zero, HeadPassed, head_passed, BodyPassedBy, body_passed, body_accepted, fault_accepted}
 use Rattle.rules.proofs.Sound.{sound_by}
-use Rattle.reader.specs.declared.Reading.{Reading}
-use Rattle.reader.specs.Format.{header_clear, record_at, spare_at, record_start, table_at, spares_at, whole_by, read_fault, read_fault_by, refused_reading, read_of, read_by}
+use Rattle.reader.specs.Format.{Reading, header_clear, record_at, spare_at, record_start, table_at, spares_at, whole_by, read_fault, read_fault_by, refused_reading, read_of, read_by}
 use Rattle.reader.proofs.FormatLaws.{read_short, reading_refused, reading-whole}
 
 -- ---- the reading
@@ -100,6 +101,10 @@ module _ (sums : Bool) (b : List ℕ) where
 
 abbrev pub ReadPassed : List ℕ → Type 0
 ReadPassed = ReadPassedBy true
+
+-- what C gets of a result that stands on a reading
+pub said_by : {A : Type 0} (sums : Bool) (b : List ℕ) (x : A) → refusal_in (unless (read_fault_by sums b) x) ≡ read_fault_by sums b
+said_by sums b x = refusal_unless (read_fault_by sums b) x (λ e. zero_by sums b (passed_by sums b e))
 
 module _ (b : List ℕ) (ok : (read_fault b).number ≡ 0) where
   pub read_passed : ReadPassed b

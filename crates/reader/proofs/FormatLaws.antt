@@ -1,11 +1,12 @@
 -- Reading the bytes of a table: its spare bytes, its records in turn, and the reader as a whole. Assumes nothing.
--- spare_first, spare_second, spare_third: a record's spare bytes. table-whole: all records under their header.
--- read_short, read_head, read_off, read_whole: the reader, test by test. reading_refused, reading-whole: what it hands back.
-use mathlib.Core.Path.{◌≡◌, sym, ap, ◌∙◌}
+-- numbers_from: where numbers begin. spare_first, spare_second, spare_third: a record's spare bytes. table-whole: all records under their header.
+-- read_short, read_head, read_off, read_whole: the reader, test by test. reading_refused, reading-whole: what `read_by` says.
+-- read_err, read_ok: what the code hands back.
+use mathlib.Core.Path.{◌≡◌, refl, sym, ap, ap₂, ◌∙◌}
 use mathlib.Core.Logic.{◌≢◌}
 use mathlib.Core.Bool.{Bool, true, false, not, and-false}
 use mathlib.Core.List.{List, [], ◌∷◌}
-use Prim.Native.Nat.{ℕ, ◌+◌, ◌-◌, ◌≤◌, ◌<◌}
+use Prim.Native.Nat.{ℕ, zero, suc, ◌+◌, ◌-◌, ◌≤◌, ◌<◌}
 use native.Mathlib.Omega.{arith}
 use lib.Dec.{eqb}
 use lib.ListN.{length, get_or}
@@ -14,11 +15,21 @@ use Rattle.numbers.specs.Numbers.{header_length, short_header, wrong_length}
 use Rattle.lent.specs.Bytes.{get, numbers, zeros, fields_at}
 use Rattle.table.specs.declared.Refusal.{Refusal}
 use Rattle.table.specs.declared.Table.{Table}
-use Rattle.table.specs.Values.{refuse, table_of, headless}
-use Rattle.table.proofs.RefusalLaws.{first_refused, first_passed}
+use Rattle.std.specs.Prelude.{Ok, Err}
+use Rattle.table.specs.Values.{refuse, unless, table_of, headless}
+use Rattle.table.proofs.RefusalLaws.{first_refused, first_passed, refused, passed}
 use Rattle.rules.specs.Rules.{head_fault, body_by}
-use Rattle.reader.specs.declared.Reading.{Reading}
-use Rattle.reader.specs.Format.{header_clear, spare_at, record_start, records_to, table_at, spares_at, whole_by, read_fault_by, refused_reading, read_by}
+use Rattle.reader.specs.Format.{Reading, header_clear, spare_at, record_start, records_to, table_at, spares_at, whole_by, read_fault_by, refused_reading, read_by}
+
+-- ---- numbers that begin o bytes behind k
+
+pub numbers_from : (w : ℕ) (b : List ℕ) (k p o n : ℕ) → numbers w b (k + p) o n ≡ numbers w b k (p + o) n
+unfolding numbers
+numbers_from w b k p o zero = refl
+numbers_from w b k p o (suc n) =
+    let one : k + p + o ≡ k + (p + o) = omega arith in
+    let next : p + (o + w) ≡ p + o + w = omega arith in
+    ap₂ ◌∷◌ (ap (get w b) one) (numbers_from w b k p (o + w) n ∙ ap (λ (x : ℕ). numbers w b k x n) next)
 
 -- ---- spare bytes, as runs that end before byte k + 4, k + 12 and k + 32
 
@@ -90,3 +101,10 @@ module _ (sums : Bool) (b : List ℕ) where
 
     pub reading-whole : r.number ≡ 0 → read_by sums b ≡ record { refusal = r; table = table_at b }
     reading-whole e = by_number ∙ ap (λ (x : Bool). elim x as (λ _. Reading) [ true ↦ record { refusal = r; table = table_at b } | false ↦ refused_reading r ]) (eq-eqb r.number 0 e)
+
+    -- as the code hands it back
+    pub read_err : r.number ≢ 0 → unless (read_fault_by sums b) (table_at b) ≡ Err r
+    read_err h = ap (λ (x : Refusal). unless x (table_at b)) so ∙ refused r (table_at b) h
+
+    pub read_ok : r.number ≡ 0 → unless (read_fault_by sums b) (table_at b) ≡ Ok (table_at b)
+    read_ok e = ap (λ (x : Refusal). unless x (table_at b)) so ∙ passed r (table_at b) e

@@ -1,6 +1,6 @@
 -- A table's bytes and the reader (document 01, 'The callback table' and 'Where each refusal is tested').
 -- header_fields, record_fields: the fields of a header and of a record in their order. record_at, table_at: the values that bytes hold.
--- header_clear: the header's spare bytes are zero. spare_at, spares_at: records with one that is not. read_fault, read_of: the reader.
+-- header_clear: the header's spare bytes are zero. spare_at, spares_at: records with one that is not. read_fault, Reading, read_of: the reader.
 -- whole_by, read_fault_by, read_by: the same with 24 tested or not, since the program of document 02's U7 reads tables as before it.
 use Rattle.std.specs.Prelude.{Bool, true, false, cond, not, ◌&&◌, List, [], ◌∷◌, ℕ, ◌+◌, ◌*◌, eqb, ltb, length, get_or}
 use Rattle.numbers.specs.Numbers.{header_length, record_length, short_header, wrong_length}
@@ -11,7 +11,6 @@ use Rattle.table.specs.declared.Refusal.{Refusal}
 use Rattle.table.specs.declared.Table.{Table}
 use Rattle.table.specs.Values.{refuse, or_else, callback_of, table_of, placed, blank_table}
 use Rattle.rules.specs.Rules.{head_fault, body_by}
-use Rattle.reader.specs.declared.Reading.{Reading}
 
 -- edition and count; Q, P, H and Z; six spare bytes
 abbrev pub header_fields : List Field
@@ -68,6 +67,11 @@ read_fault_by sums b =
 
 abbrev pub read_fault : List ℕ → Refusal
 read_fault = read_fault_by true
+
+-- a reading: the table, or a refusal beside a blank one
+pub record Reading : Type 0 where
+  pub refusal : Refusal
+  pub table : Table
 
 -- a refusal beside a blank table
 abbrev pub refused_reading : Refusal → Reading

@@ -4,52 +4,25 @@
 
 ghost use Rattle.std.specs.Prelude.{◌≡◌, ℕ, ◌+◌, ◌≤◌, length, get_or};
 ghost use Rattle.numbers.specs.Numbers.{places};
-ghost use Rattle.lent.specs.Bytes.{numbers as numbers_at};
-ghost use Rattle.table.specs.Values.{blank_table};
-ghost use Rattle.reader.specs.Format.{record_at, spare_at, record_start, spares_at, table_at, refused_reading, read_of, read_by};
+ghost use Rattle.table.specs.Values.{unless};
+ghost use Rattle.reader.specs.Format.{record_at, spare_at, record_start, spares_at, table_at, read_fault, read_fault_by};
 
-use numbers::{HEADER_LENGTH, PLACES, RECORD_LENGTH, SHORT_HEADER, WRONG_LENGTH};
-use rules::{body_fault, head_fault};
-use table::{Callback, Refusal, Table, refused};
-
-// What reading gives: the table, or a refusal beside a blank table.
-#[derive(Clone, Copy)]
-pub struct Reading {
-    pub refusal: Refusal,
-    pub table: Table,
-}
-
-// The eight cost entries of the record from byte `at` on.
-fn entries_at(b: &[u8], at: usize) -> [u16; 8]
-    requires { at + 32 ≤ length b.now }
-    ensures { result ≡ numbers_at 2 b.now at 12 8 }
-{
-    let mut entries: [u16; 8] = [0; 8];
-    let mut i: usize = 0;
-    while i < 8 {
-        entries[i] = lent::get_u16(b, at + (12 + 2 * i));
-        i += 1;
-    }
-    entries
-}
+use numbers::{HEADER_LENGTH, RECORD_LENGTH};
+use table::{Callback, Refusal, Row, Table};
 
 // The record from byte `at` on.
 fn record_at(b: &[u8], at: usize) -> Callback
     requires { at + 32 ≤ length b.now }
     ensures { result ≡ record_at b.now at }
 {
-    let period = lent::get_u16(b, at + 4);
-    let jitter = lent::get_u16(b, at + 6);
-    let distance = lent::get_u16(b, at + 8);
-    let entries = entries_at(b, at);
     Callback {
         kind: b[at],
         next: b[at + 1],
         used: b[at + 2],
-        period: period,
-        jitter: jitter,
-        distance: distance,
-        entries: entries,
+        period: lent::get(b, at + 4),
+        jitter: lent::get(b, at + 6),
+        distance: lent::get(b, at + 8),
+        entries: lent::get_all(b, at + 12),
     }
 }
 
@@ -58,13 +31,9 @@ fn spare_at(b: &[u8], at: usize) -> bool
     requires { at + 32 ≤ length b.now }
     ensures { result ≡ spare_at b.now at }
 {
-    if !lent::all_zero(b, at + 3, at + 4) {
-        return true;
-    }
-    if !lent::all_zero(b, at + 10, at + 12) {
-        return true;
-    }
-    !lent::all_zero(b, at + 28, at + 32)
+    !lent::all_zero(b, at + 3, at + 4)
+        || !lent::all_zero(b, at + 10, at + 12)
+        || !lent::all_zero(b, at + 28, at + 32)
 }
 
 // The records with a spare byte not zero.
@@ -74,12 +43,10 @@ fn spares_at(b: &[u8]) -> u16
 {
     let n = b[1];
     let mut spares: u16 = 0;
-    let mut i: u8 = 0;
-    while i < n {
+    for i in 0..n {
         if spare_at(b, HEADER_LENGTH + RECORD_LENGTH * (i as usize)) {
             spares = masks::set_slot(spares, i as u16);
         }
-        i += 1;
     }
     spares
 }
@@ -91,62 +58,39 @@ fn table_at(b: &[u8]) -> Table
 {
     let n = b[1];
     let mut t = table::blank();
-    let mut i: u8 = 0;
-    while i < n {
-        let c = record_at(b, HEADER_LENGTH + RECORD_LENGTH * (i as usize));
-        t.callbacks[i as usize] = c;
-        i += 1;
+    for i in 0..n {
+        t.callbacks[i as usize] = record_at(b, HEADER_LENGTH + RECORD_LENGTH * (i as usize));
     }
     t.edition = b[0];
     t.count = n;
-    t.budget = lent::get_u16(b, 2);
-    t.period = lent::get_u16(b, 4);
-    t.horizon = lent::get_u16(b, 6);
-    t.delay = lent::get_u16(b, 8);
+    t.budget = lent::get(b, 2);
+    t.period = lent::get(b, 4);
+    t.horizon = lent::get(b, 6);
+    t.delay = lent::get(b, 8);
     t
 }
 
-// A refusal beside a blank table.
-fn refusing(r: Refusal) -> Reading
-    ensures { result ≡ refused_reading r }
-{
-    let t = table::blank();
-    Reading {
-        refusal: r,
-        table: t,
-    }
-}
-
-// Reads a table, of any length: the table, or a refusal beside a blank one. `sums` says that 24 is tested.
-pub fn read_by(bytes: &[u8], sums: bool) -> Reading
-    ensures { result ≡ read_by sums bytes.now }
+// Reads a table, of any length: the table, or the refusal. `sums` says that 24 is tested.
+pub fn read_by(bytes: &[u8], sums: bool) -> Result<Table, Refusal>
+    ensures { result ≡ unless (read_fault_by sums bytes.now) (table_at bytes.now) }
 {
     if bytes.len() < HEADER_LENGTH {
-        return refusing(refused(SHORT_HEADER, 0));
+        return Err(Row::ShortHeader.at(0));
     }
     let n = bytes[1];
-    let head = head_fault(bytes[0], n);
-    if head.number != 0 {
-        return refusing(head);
-    }
+    rules::check_head(bytes[0], n)?;
     if bytes.len() != HEADER_LENGTH + RECORD_LENGTH * (n as usize) {
-        return refusing(refused(WRONG_LENGTH, 0));
+        return Err(Row::WrongLength.at(0));
     }
     let t = table_at(bytes);
     let spare = !lent::all_zero(bytes, 10, 16);
-    let r = body_fault(t, spare, spares_at(bytes), sums);
-    if r.number != 0 {
-        return refusing(r);
-    }
-    Reading {
-        refusal: r,
-        table: t,
-    }
+    rules::check_body(t, spare, spares_at(bytes), sums)?;
+    Ok(t)
 }
 
 // Reads a table by all rules.
-pub fn read(bytes: &[u8]) -> Reading
-    ensures { result ≡ read_of bytes.now }
+pub fn read(bytes: &[u8]) -> Result<Table, Refusal>
+    ensures { result ≡ unless (read_fault bytes.now) (table_at bytes.now) }
 {
     read_by(bytes, true)
 }

@@ -5,9 +5,9 @@
 
 // Prints the refusal of a table's bytes.
 fn report(bytes: &[u8]) {
-    let r = reader::read(bytes);
-    frames::print_number(r.refusal.number);
-    frames::print_fields(&[r.refusal.index]);
+    let r = table::refusal_of(reader::read(bytes));
+    frames::print_number(r.number);
+    frames::print_fields(&[r.index]);
     frames::print(b"\n");
 }
 

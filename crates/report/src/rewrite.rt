@@ -30,7 +30,7 @@ fn write_table(bytes: &[u8], refusal: Refusal) -> bool {
 pub fn rewrite(bytes: &mut [u8]) -> Rewritten
     ensures { (result.refusal ≡ normalise_fault bytes.old) × (bytes.new ≡ normalised bytes.old) }
 {
-    let refusal = normaliser::normalise(bytes);
+    let refusal = table::refusal_of(normaliser::normalise(bytes));
     let written = write_table(bytes, refusal);
     Rewritten { refusal, written }
 }

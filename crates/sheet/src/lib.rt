@@ -91,11 +91,8 @@ pub fn analyse(bytes: &[u8], row: &mut [u16]) -> Sheet
     if row.len() < PLACES as usize {
         return refused(Row::ShortRow.at(0));
     }
-    let reading = reader::read(bytes);
-    let fault = reading.refusal;
-    if fault.number != 0 {
-        return refused(fault);
+    match reader::read(bytes) {
+        Ok(t) => sheet_of(t, row),
+        Err(fault) => refused(fault),
     }
-    let t = reading.table;
-    sheet_of(t, row)
 }

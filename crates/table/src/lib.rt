@@ -4,6 +4,7 @@
 #![tactic(auto)]
 
 ghost use Rattle.std.specs.Prelude.{◌≡◌, ℕ};
+ghost use Rattle.table.specs.Said.{refusal_in};
 ghost use Rattle.table.specs.Values.{refuse, blank_table, horizon_of};
 
 pub mod kinds;
@@ -26,6 +27,16 @@ pub fn refused(number: u8, index: u8) -> Refusal
     ensures { result ≡ refuse number index }
 {
     Refusal { number, index }
+}
+
+// The refusal in a result, as C has it: number 0 where there is none.
+pub fn refusal_of<T: Copy>(said: Result<T, Refusal>) -> Refusal
+    ensures { result ≡ refusal_in said }
+{
+    match said {
+        Ok(_) => refused(0, 0),
+        Err(why) => why,
+    }
 }
 
 // One record: kind, next, m (how many of the cost entries are used), T, J, d, and the entries E(1) to E(8).

@@ -29,7 +29,7 @@ loop-j-preserved c =
     let a = c.args in
     let l = c.loop-j in
     let rest : entry a.sums (a.k - l.j) ≡ get_or a.sums (a.k - l.j - 1) 0 = entry_at a.sums (a.k - l.j) (omega arith) in
-    let next : c.min-best.result ≡ min l.best (first_sum a.entries a.sums a.k l.j) = omega (arith, c.min-best.ensures, rest) in (
+    let next : c.min-best.result ≡ min l.best (first_sum a.entries a.sums a.k l.j) = omega (arith, rest) in (
       omega (arith, next, l.invariant.0),
       next
           ∙ ap (λ (b : ℕ). min b (first_sum a.entries a.sums a.k l.j)) l.invariant.1

@@ -1,8 +1,8 @@
 -- The reader's refusal.
 use mathlib.Core.Path.{ap, ◌∙◌}
-use Rattle.reader.specs.declared.Reading.{Reading}
-use Rattle.reader.proofs.Accepted.{reading_is}
+use Rattle.table.specs.Said.{refusal_in}
+use Rattle.reader.proofs.Accepted.{said_by}
 use Rattle.cuorfelt.proofs.cuorfelt_read.Goals as goal
 
 pub returns : goal.returns
-returns c = ap (λ (x : Reading). x.refusal) c.read-reading.ensures ∙ reading_is _
+returns c = c.refusal_of.ensures ∙ ap refusal_in c.read.ensures ∙ said_by _ _ _

@@ -7,7 +7,7 @@ use Rattle.table.specs.declared.Table.{Table}
 use Rattle.executor.specs.declared.Machine.{Machine}
 use Rattle.layout.specs.Layout.{tail_at, machine_of, unpacked}
 use Rattle.layout.proofs.LayoutLaws.{Laid, end_before}
-use Rattle.layout.proofs.UnpackingLaws.{none_in, is_in, not_zero, part_number, part_table}
+use Rattle.layout.proofs.UnpackingLaws.{none_in, is_in, not_zero, part_refused, part_read}
 use Rattle.layout.proofs.unpack.Goals as goal
 use Rattle.layout.proofs.unpack.Goals.{then-state-ne-STATE_LENGTH-via-then-state-ne-STATE_LENGTH, then-state-ne-STATE_LENGTH-via-else-state-ne-STATE_LENGTH+then-state-gt-PLACES}
 use Rattle.layout.proofs.unpack.Goals.{then-not-all_zero-via-then-not-all_zero, then-not-all_zero-via-else-not-all_zero+then-not-all_zero-2}
@@ -28,20 +28,20 @@ returns-then-not-all_zero c =
       | then-not-all_zero-via-else-not-all_zero+then-not-all_zero-2 w ↦ not_zero _ _ w.all_zero-else-not-all_zero.ensures (ap not w.if-not-all_zero-2.true) l.spare
     ])
 
-pub returns-then-reading-ne0 : goal.returns-then-reading-ne0
-returns-then-reading-ne0 c = none_in _ (λ l. c.if-reading-ne0.true (part_number c.args.state.now c.read_by-reading.ensures ∙ l.read))
+pub returns-in_default : goal.returns-in_default
+returns-in_default c = none_in _ (λ l. part_refused c.args.state.now (sym c.read_by.ensures ∙ c.in_default.is) l.read)
 
 pub returns : goal.returns
 unfolding unpacked
 returns c =
     let b = c.args.state.now in
-    let read = c.read_by-reading.ensures in
+    let read = part_read b (sym c.read_by.ensures ∙ c.in-Ok.is) in
     let l : Laid b = record {
       size = c.if-state-ne-STATE_LENGTH.false;
-      read = sym (part_number b read) ∙ c.if-reading-ne0.false;
+      read = read.1;
       gap = sym c.all_zero.ensures ∙ c.if-not-all_zero.false;
       spare = sym c.all_zero-else-not-all_zero.ensures ∙ c.if-not-all_zero-2.false;
     } in
     ap (λ (m : Machine). Some m)
-    (c.unpack_with.ensures ∙ ap (λ (t : Table). machine_of t (tail_at b)) (part_table b read c.if-reading-ne0.false))
+    (c.unpack_with.ensures ∙ ap (λ (t : Table). machine_of t (tail_at b)) read.0)
     ∙ is_in b l

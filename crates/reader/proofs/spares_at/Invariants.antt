@@ -2,8 +2,7 @@
 use mathlib.Core.Path.{◌≡◌}
 use mathlib.Core.Bool.{Bool}
 use mathlib.Core.List.{List}
-use Prim.Native.Nat.{ℕ, ◌≤◌, ◌-◌}
-use lib.ListN.{get_or}
+use Prim.Native.Nat.{ℕ}
 use Rattle.masks.specs.Mask.{gather}
 use Rattle.reader.specs.Format.{spare_at, record_start}
 use Rattle.reader.proofs.spares_at.Given as goal
@@ -12,7 +11,4 @@ abbrev pub spare_in : List ℕ → ℕ → Bool
 spare_in b i = spare_at b (record_start i)
 
 abbrev pub invariant-loop-i : goal.invariant-loop-i
-invariant-loop-i l = (l.i ≤ get_or l.b 1 0) × (l.spares ≡ gather (spare_in l.b) l.i)
-
-abbrev pub decreases-loop-i : goal.decreases-loop-i
-decreases-loop-i l = l.n - l.i
+invariant-loop-i l = l.spares ≡ gather (spare_in l.b) l.i

@@ -1,6 +1,8 @@
--- What is handed back is what the normaliser returned, and the bytes are as it left them.
-use borrow.Author.Rules.{rules}
+-- What is handed back is the normaliser's refusal, and the bytes are as it left them.
+use mathlib.Core.Path.{ap, ◌∙◌}
+use Rattle.table.specs.Said.{refusal_in}
+use Rattle.normaliser.proofs.NormaliserLaws.{said_normalise}
 use Rattle.report.proofs.rewrite.rewrite.Goals as goal
 
 pub returns : goal.returns
-returns c = search rules
+returns c = (c.refusal_of-refusal.ensures ∙ ap refusal_in c.normalise.ensures.0 ∙ said_normalise _, c.normalise.ensures.1)
