@@ -36,4 +36,4 @@ returns c =
     (λ i. omega (arith, c.type_inv.table i))
     c.copy.ensures
     c.zero.ensures in
-    (c.refused-2.ensures ∙ x.0, x.1)
+    (c.refused.ensures ∙ x.0, x.1)
