@@ -14,7 +14,7 @@ pub returns-in_default : goal.returns-in_default
 returns-in_default c =
     let e = c.of-t.ensures in
     let row = c.args.row.now in
-    let o = fault_none c.of-t.result.table row (is_none _ c.in_default.ensures.0) in
+    let o = fault_none c.of-t.result.table row (is_none _ (sym c.in_default.is ∙ c.window.ensures.0)) in
     (c.refused.ensures ∙ ap refused_sheet c.at.ensures ∙ sym o.0 ∙ ap table_sheet e, sym o.1 ∙ ap (λ (t : Table). table_row t row) e)
 
 pub returns-in-Some-first_crowded : goal.returns-in-Some-first_crowded
