@@ -9,8 +9,10 @@ ghost use Rattle.numbers.specs.Numbers.{places, longest};
 ghost use Rattle.rules.specs.Parts.{Sound};
 ghost use Rattle.windows.specs.Bounds.{window_of};
 ghost use Rattle.windows.specs.Parts.{Spaced};
-ghost use Rattle.sheet.specs.Sheet.{bounds_to, too_many_at, sheet_of, row_of};
-ghost use Rattle.sheet.specs.Parts.{crowded_by, refused_sheet, table_sheet, table_row};
+ghost use Rattle.table.specs.Values.{unless};
+ghost use Rattle.reader.specs.Format.{table_at};
+ghost use Rattle.sheet.specs.Sheet.{bounds_to, too_many_at, sheet_fault, analysis_fault, sheet_of, row_of};
+ghost use Rattle.sheet.specs.Parts.{crowded_by, told, table_row};
 
 use numbers::{MOST_WAITING, PLACES};
 use table::{Callback, Refusal, Row, Table};
@@ -22,6 +24,21 @@ use windows::Chained;
 pub struct Sheet {
     pub window: u16,
     pub refusal: Refusal,
+}
+
+// The window, or 0 beside the refusal.
+impl From<Result<u16, Refusal>> for Sheet {
+    ghost from_gives = { λ r s. s ≡ told r };
+
+    fn from(found: Result<u16, Refusal>) -> Self {
+        match found {
+            Ok(window) => Sheet {
+                window,
+                refusal: table::refused(0, 0),
+            },
+            Err(refusal) => Sheet { window: 0, refusal },
+        }
+    }
 }
 
 // Whether a slot is the head of its chain and more of its instances arrive in a window of that many ticks than may wait.
@@ -57,42 +74,35 @@ fn write_bounds(t: &Chained, window: u32, row: &mut [u16])
     }
 }
 
-// A refusal, with no window.
-fn refused(refusal: Refusal) -> Sheet
-    ensures { result ≡ refused_sheet refusal }
-{
-    Sheet { window: 0, refusal }
-}
-
-// The sheet of a table that the reader accepted: the bounds go into the row, unless it is refused with 15 or 16.
-fn sheet_of(t: Table, row: &mut [u16]) -> Sheet
+// The bounds of a table that the reader accepted go into the row, unless it is refused with 15 or 16; gives the window.
+fn bounded(t: Table, row: &mut [u16]) -> Result<u16, Refusal>
     requires { Sound t × (places ≤ length row.old) }
-    ensures { (result ≡ table_sheet t) × (row.new ≡ table_row t row.old) }
+    ensures { (result ≡ unless (sheet_fault t) (window_of t)) × (row.new ≡ table_row t row.old) }
 {
     let t = Chained::of(t);
     let Some(window) = levels::window(&t) else {
-        return refused(Row::NoWindow.at(0));
+        return Err(Row::NoWindow.at(0));
     };
     if let Some(crowded) = first_crowded(&t, window) {
-        return refused(Row::TooMany.at(crowded));
+        return Err(Row::TooMany.at(crowded));
     }
     write_bounds(&t, window, row);
-    Sheet {
-        window: window as u16,
-        refusal: table::refused(0, 0),
-    }
+    Ok(window as u16)
 }
 
-// The analyser: the sheet of a table's bytes. Bounds 1 to n go into the row's first n places, and no other place is touched; at a
-// refusal none is.
+// The window of a table's bytes. Bounds 1 to n go into the row's first n places, and no other place is touched; at a refusal none is.
+fn analysed(bytes: &[u8], row: &mut [u16]) -> Result<u16, Refusal>
+    ensures { (result ≡ unless (analysis_fault bytes.now (length row.old)) (window_of (table_at bytes.now))) × (row.new ≡ row_of bytes.now row.old) }
+{
+    if row.len() < PLACES as usize {
+        return Err(Row::ShortRow.at(0));
+    }
+    bounded(reader::read(bytes)?, row)
+}
+
+// The analyser: the sheet of a table's bytes, as the C interface has it, and the row.
 pub fn analyse(bytes: &[u8], row: &mut [u16]) -> Sheet
     ensures { (result ≡ sheet_of bytes.now (length row.old)) × (row.new ≡ row_of bytes.now row.old) }
 {
-    if row.len() < PLACES as usize {
-        return refused(Row::ShortRow.at(0));
-    }
-    match reader::read(bytes) {
-        Ok(t) => sheet_of(t, row),
-        Err(fault) => refused(fault),
-    }
+    Sheet::from(analysed(bytes, row))
 }
