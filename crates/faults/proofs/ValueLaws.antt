@@ -1,6 +1,5 @@
 -- The faults of number 29 over values, test by test. Assumes nothing.
 --   cached_only, running_only    what is left of the tests of the cache
---   none_within, some-within     a number that lies in 1 to h
 --   slot_is                      what the code finds in a slot
 --   SlotRight, RunRight          what a slot and what runs have where nothing is wrong: slot_right, slot_faultless, run_right, run_faultless
 --   table_judged                 the table
@@ -15,10 +14,13 @@ use lib.Dec.{eqb, ltb, leb}
 use lib.ListN.{get_or}
 use Rattle.masks.specs.Mask.{has}
 use Rattle.turns.specs.Choosing.{is_polled}
-use borrow.Author.Tests.{le-leb, lt-leb, le-ltb, ltb-true, ltb-false, ne_eqb, eq-eqb, eqb-false, eqb-true}
+use borrow.Author.Tests.{le-ltb, ltb-false, ne_eqb, eq-eqb, eqb-false, eqb-true}
 use Rattle.ranges.specs.Every.{within}
 use Rattle.ranges.proofs.EveryLaws.{or_fails, within_passed, within_holds, never_both}
-use Rattle.table.specs.declared.Refusal.{Refusal}
+use native.Mathlib.Decide.{ℕ_discrete}
+use Rattle.std.specs.Result.{is_err}
+use Rattle.table.specs.Values.{unless}
+use Rattle.table.proofs.RefusalLaws.{refused, passed}
 use Rattle.table.specs.declared.Table.{Table}
 use Rattle.numbers.specs.Numbers.{most_waiting, longest}
 use Rattle.rules.specs.Rules.{fault_of}
@@ -35,17 +37,6 @@ cached_only false false = refl
 pub running_only : (polled : Bool) → polled ≡ (polled && true)
 running_only true = refl
 running_only false = refl
-
--- 1 to h, where x is 0 and where it is not
-pub none_within : (h x : ℕ) → x ≡ 0 → within 1 h x ≡ false
-none_within h x e = ap (within 1 h) e
-
-pub some-within : (h x : ℕ) → x ≢ 0 → ltb h x ≡ not (within 1 h x)
-some-within h x n = rw (le-leb 1 x (omega arith)) (go (ltb h x) refl)
-  where
-    go : (b : Bool) → ltb h x ≡ b → b ≡ not (leb x h)
-    go true e = sym (ap not (lt-leb x h (ltb-true h x e)))
-    go false e = sym (ap not (le-leb x h (ltb-false h x e)))
 
 -- what the code finds in a slot
 pub slot_is : (t : Table) (c r i : ℕ) (ws fs : List ℕ) (clock : ℕ) (cached polls b : Bool) → cached ≡ has c i → polls ≡ is_polled t i
@@ -150,6 +141,10 @@ module _ (n running units : ℕ) where
 
 -- ---- the table
 
-pub table_judged : (t : Table) (r : Refusal) → r ≡ fault_of t → not (eqb r.number 0) ≡ table_fault t
+pub table_judged : (t : Table) → is_err (unless {A = Unit {0}} (fault_of t) tt) ≡ table_fault t
 unfolding table_fault
-table_judged t r e = ap (λ (x : Refusal). not (eqb x.number 0)) e
+table_judged t = go (ℕ_discrete (fault_of t).number 0)
+  where
+    go : Dec ((fault_of t).number ≡ 0) → is_err (unless {A = Unit {0}} (fault_of t) tt) ≡ not (eqb (fault_of t).number 0)
+    go (yes e) = ap is_err (passed (fault_of t) tt e) ∙ sym (ap not (eq-eqb _ 0 e))
+    go (no h) = ap is_err (refused (fault_of t) tt h) ∙ sym (ap not (ne_eqb _ 0 h))

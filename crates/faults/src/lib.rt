@@ -9,58 +9,49 @@ use numbers::{LONGEST, MOST_WAITING, PLACES};
 use table::Table;
 use turns::choosing::polled;
 
-// Whether a callback beyond n is cached, waits or has finished.
-fn beyond_fault(beyond: bool, cached: bool, waiting: u16, finished: u32) -> bool
-    ensures { result ≡ beyond_wrong beyond cached waiting finished }
-{
-    if !beyond {
-        return false;
-    }
-    if cached {
-        return true;
-    }
-    waiting > 0 || finished > 0
-}
-
-// Whether too many wait, or more have finished than ticks were taken.
-fn count_fault(waiting: u16, finished: u32, clock: u32) -> bool
-    ensures { result ≡ count_wrong waiting finished clock }
-{
-    waiting > MOST_WAITING || finished > clock
-}
-
-// Whether one that is cached or runs has nothing waiting, one is cached that is not polled, or one runs that is polled and not cached.
-fn cache_fault(cached: bool, runs: bool, polled: bool, waiting: u16) -> bool
-    ensures { result ≡ cache_wrong cached runs polled waiting }
-{
-    if cached {
-        return waiting == 0 || !polled;
-    }
-    if runs {
-        return waiting == 0 || polled;
-    }
-    false
-}
-
-// What is wrong in one slot.
-fn slot_fault(
+// A slot of a state: whether it lies beyond n, is cached, runs and is polled, how many instances wait, and how many have finished.
+#[derive(Clone, Copy)]
+struct Slot {
     beyond: bool,
     cached: bool,
     runs: bool,
     polled: bool,
     waiting: u16,
     finished: u32,
-    clock: u32,
-) -> bool
-    ensures { result ≡ slot_wrong beyond cached runs polled waiting finished clock }
-{
-    if beyond_fault(beyond, cached, waiting, finished) {
-        return true;
+}
+
+impl Slot {
+    // Whether it lies beyond n and is cached, waits or has finished.
+    fn beyond_fault(self) -> bool
+        ensures { result ≡ beyond_wrong self.beyond self.cached self.waiting self.finished }
+    {
+        self.beyond && (self.cached || self.waiting > 0 || self.finished > 0)
     }
-    if count_fault(waiting, finished, clock) {
-        return true;
+
+    // Whether too many wait, or more have finished than ticks were taken.
+    fn count_fault(self, clock: u32) -> bool
+        ensures { result ≡ count_wrong self.waiting self.finished clock }
+    {
+        self.waiting > MOST_WAITING || self.finished > clock
     }
-    cache_fault(cached, runs, polled, waiting)
+
+    // Whether it is cached or runs and nothing waits, is cached and not polled, or runs, is polled and is not cached.
+    fn cache_fault(self) -> bool
+        ensures { result ≡ cache_wrong self.cached self.runs self.polled self.waiting }
+    {
+        if self.cached {
+            self.waiting == 0 || !self.polled
+        } else {
+            self.runs && (self.waiting == 0 || self.polled)
+        }
+    }
+
+    // Whether anything is wrong in it, after so many ticks.
+    fn fault(self, clock: u32) -> bool
+        ensures { result ≡ slot_wrong self.beyond self.cached self.runs self.polled self.waiting self.finished clock }
+    {
+        self.beyond_fault() || self.count_fault(clock) || self.cache_fault()
+    }
 }
 
 // Whether any slot is at fault.
@@ -74,24 +65,19 @@ pub fn slots_fault(
 ) -> bool
     ensures { result ≡ slots_fault t cache running waiting finished clock }
 {
-    let mut i: u8 = 0;
-    while i < PLACES {
-        let c = t.callbacks[i as usize];
-        let cached = masks::test_slot(cache, i as u16);
-        let runs = running == i + 1;
-        let polls = polled(t.edition, c.kind);
-        if slot_fault(
-            i >= t.count,
-            cached,
-            runs,
-            polls,
-            waiting[i as usize],
-            finished[i as usize],
-            clock,
-        ) {
+    for i in 0..PLACES {
+        let place = i as usize;
+        let slot = Slot {
+            beyond: i >= t.count,
+            cached: masks::test_slot(cache, i as u16),
+            runs: running == i + 1,
+            polled: polled(t.edition, t.callbacks[place].kind),
+            waiting: waiting[place],
+            finished: finished[place],
+        };
+        if slot.fault(clock) {
             return true;
         }
-        i += 1;
     }
     false
 }
@@ -100,19 +86,16 @@ pub fn slots_fault(
 pub fn run_fault(n: u8, running: u8, units: u16) -> bool
     ensures { result ≡ run_wrong n running units }
 {
-    if running > n {
-        return true;
-    }
     if running == 0 {
-        return units != 0;
+        units != 0
+    } else {
+        running > n || !(1..=LONGEST).contains(&units)
     }
-    units == 0 || units > LONGEST
 }
 
 // Whether the reader refuses such a table.
 pub fn table_fault(t: Table) -> bool
     ensures { result ≡ table_fault t }
 {
-    let r = rules::fault(t);
-    r.number != 0
+    rules::check(t).is_err()
 }
