@@ -19,20 +19,14 @@ const RECORD_SIZE: usize = 14;
 fn number_at(numbers: &[u16], at: usize) -> u16
     ensures { result ≡ get_or numbers.now at 0 }
 {
-    if at < numbers.len() {
-        return numbers[at];
-    }
-    0
+    numbers.get(at).copied().unwrap_or(0)
 }
 
 // A number for a byte: where it is too wide the largest byte stands for it, which every rule refuses in the same way.
 fn narrow(x: u16) -> u8
     ensures { result ≡ narrow_of x }
 {
-    if x > 255 {
-        return 255;
-    }
-    x as u8
+    x.min(255) as u8
 }
 
 // The cost entries of the record whose numbers begin at a place.
@@ -41,10 +35,8 @@ fn entries_of(numbers: &[u16], at: usize) -> [u16; 8]
     ensures { result ≡ numbers_at 1 numbers.now at 6 8 }
 {
     let mut entries: [u16; 8] = [0; 8];
-    let mut i: usize = 0;
-    while i < 8 {
+    for i in 0..8 {
         entries[i] = number_at(numbers, at + (6 + i));
-        i += 1;
     }
     entries
 }
@@ -54,21 +46,14 @@ fn record_of(numbers: &[u16], at: usize) -> Callback
     requires { at ≤ record_size * places }
     ensures { result ≡ narrow_record (described_record numbers.now at) }
 {
-    let kind = narrow(number_at(numbers, at));
-    let next = narrow(number_at(numbers, at + 1));
-    let used = narrow(number_at(numbers, at + 2));
-    let period = number_at(numbers, at + 3);
-    let jitter = number_at(numbers, at + 4);
-    let distance = number_at(numbers, at + 5);
-    let entries = entries_of(numbers, at);
     Callback {
-        kind: kind,
-        next: next,
-        used: used,
-        period: period,
-        jitter: jitter,
-        distance: distance,
-        entries: entries,
+        kind: narrow(number_at(numbers, at)),
+        next: narrow(number_at(numbers, at + 1)),
+        used: narrow(number_at(numbers, at + 2)),
+        period: number_at(numbers, at + 3),
+        jitter: number_at(numbers, at + 4),
+        distance: number_at(numbers, at + 5),
+        entries: entries_of(numbers, at),
     }
 }
 
@@ -85,11 +70,8 @@ fn table_of(
     ensures { result ≡ narrow_table (edition ∷ count ∷ []) (budget ∷ period ∷ horizon ∷ delay ∷ []) records.now }
 {
     let mut t = table::blank();
-    let mut i: u8 = 0;
-    while i < PLACES {
-        let c = record_of(records, RECORD_SIZE * (i as usize));
-        t.callbacks[i as usize] = c;
-        i += 1;
+    for i in 0..PLACES {
+        t.callbacks[i as usize] = record_of(records, RECORD_SIZE * (i as usize));
     }
     t.edition = narrow(edition);
     t.count = narrow(count);

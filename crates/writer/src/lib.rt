@@ -12,12 +12,13 @@ ghost use Rattle.reader.specs.Written.{header_numbers, record_bytes, written};
 ghost use Rattle.writer.specs.Writer.{refused_writing, write_of, buffer_after};
 ghost use Rattle.writer.specs.Parts.{record_front};
 
-use numbers::{HEADER_LENGTH, RECORD_LENGTH, SHORT_BUFFER};
-use table::{Callback, Refusal, Table};
+use numbers::{HEADER_LENGTH, RECORD_LENGTH};
+use table::{Callback, Refusal, Row, Table};
 
 pub mod described;
 
-// What writing gives: the length of the table in bytes, or 0 and the refusal.
+// What writing gives: the length of the table in bytes, or 0 and the refusal. No Result, since C gets it as it is, and the theorem reads-back and
+// others speak of its length (`write_of`).
 #[repr(C)]
 #[derive(Clone, Copy)]
 pub struct Written {
@@ -71,12 +72,12 @@ fn put_table(b: &mut [u8], t: Table)
     ensures { b.new ≡ over b.old 0 (written t) }
 {
     put_header(b, t);
-    let n = t.count;
-    let mut i: u8 = 0;
-    while i < n {
-        let c = t.callbacks[i as usize];
-        put_record(b, HEADER_LENGTH + RECORD_LENGTH * (i as usize), c);
-        i += 1;
+    for i in 0..t.count {
+        put_record(
+            b,
+            HEADER_LENGTH + RECORD_LENGTH * (i as usize),
+            t.callbacks[i as usize],
+        );
     }
 }
 
@@ -96,13 +97,12 @@ fn refusing(r: Refusal) -> Written
 pub fn write(t: Table, buffer: &mut [u8]) -> Written
     ensures { (result ≡ write_of t (length buffer.old)) × (buffer.new ≡ buffer_after t buffer.old) }
 {
-    let r = rules::fault(t);
-    if r.number != 0 {
+    if let Err(r) = rules::check(t) {
         return refusing(r);
     }
     let end = HEADER_LENGTH + RECORD_LENGTH * (t.count as usize);
     if buffer.len() < end {
-        return refusing(table::refused(SHORT_BUFFER, 0));
+        return refusing(Row::ShortBuffer.at(0));
     }
     put_table(buffer, t);
     Written {

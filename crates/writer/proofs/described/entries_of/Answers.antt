@@ -9,22 +9,21 @@ use Rattle.writer.proofs.described.entries_of.Goals as goal
 
 pub loop-i-init : goal.loop-i-init
 unfolding numbers
-loop-i-init c = (omega arith, refl, refl)
+loop-i-init c = (refl, refl)
 
 pub loop-i-preserved : goal.loop-i-preserved
 loop-i-preserved c =
-    let a = c.before.before.before.before.args in
-    let l = c.before.before.loop-i in
+    let a = c.args in
+    let l = c.loop-i in
     let one : 6 + l.i ≡ 6 + 1 * l.i = omega arith in (
-      omega arith,
-      simp length-set l.invariant.1,
+      simp length-set l.invariant.0,
       ap (λ (x : ℕ). take (l.i + 1) (set l.entries l.i x)) (c.number_at.ensures ∙ ap (λ (k : ℕ). get_or a.numbers.now (a.at + k) 0) one)
-          ∙ numbers-step 1 a.numbers.now l.entries a.at 6 l.i (omega arith) l.invariant.2,
+          ∙ numbers-step 1 a.numbers.now l.entries a.at 6 l.i (omega arith) l.invariant.1,
     )
 
 pub returns : goal.returns
 returns c =
-    let a = c.before.before.before.args in
-    let l = c.before.loop-i in
+    let a = c.args in
+    let l = c.loop-i in
     let done : l.i ≡ 8 = omega arith in
-    sym (take_all l.i l.entries (omega (arith, l.invariant.1))) ∙ l.invariant.2 ∙ ap (numbers 1 a.numbers.now a.at 6) done
+    sym (take_all l.i l.entries (omega (arith, l.invariant.0))) ∙ l.invariant.1 ∙ ap (numbers 1 a.numbers.now a.at 6) done

@@ -9,11 +9,9 @@ use Rattle.writer.proofs.described.write.Goals as goal
 
 pub returns : goal.returns
 returns c =
-    let w = c.before.before in
-    let t = w.before.before in
-    let a = t.before.before.before.args in
+    let a = c.args in
     let b = a.buffer.now in
     let same = described-narrow (a.edition ∷ a.count ∷ []) (a.budget ∷ a.period ∷ a.horizon ∷ a.delay ∷ []) a.records.now b in (
-      w.write.ensures.0 ∙ ap (λ (x : Table). write_of x (length b)) t.table_of-t.ensures ∙ sym same.0,
-      w.write.ensures.1 ∙ ap (λ (x : Table). buffer_after x b) t.table_of-t.ensures ∙ sym same.1,
+      c.write.ensures.0 ∙ ap (λ (x : Table). write_of x (length b)) c.table_of-t.ensures ∙ sym same.0,
+      c.write.ensures.1 ∙ ap (λ (x : Table). buffer_after x b) c.table_of-t.ensures ∙ sym same.1,
     )
