@@ -154,25 +154,6 @@ pub fn check(t: Table) -> Result<(), Refusal>
 
 // The old forms, until nobody calls them.
 
-pub fn head_fault(edition: u8, count: u8) -> Refusal
-    ensures { result ≡ head_fault edition count }
-{
-    match check_head(edition, count) {
-        Ok(()) => table::refused(0, 0),
-        Err(refusal) => refusal,
-    }
-}
-
-pub fn body_fault(t: Table, spare: bool, spares: u16, sums: bool) -> Refusal
-    requires { t.count ≤ places }
-    ensures { result ≡ body_by sums spare spares t }
-{
-    match check_body(t, spare, spares, sums) {
-        Ok(()) => table::refused(0, 0),
-        Err(refusal) => refusal,
-    }
-}
-
 pub fn fault(t: Table) -> Refusal
     ensures { result ≡ fault_of t }
 {
