@@ -1,7 +1,7 @@
 -- Numbers in bytes: one, and several of one width. Assumes nothing.
 -- get_more: a byte and the rest. past, get_past: behind a prefix. get_part: in a part. get-le, le-get: a number written and read, read and written.
 -- numbers_snoc, numbers_at: one number more, and one of them. length_run, length-numbers. numbers-run, run-numbers: several numbers written and read, read and written.
--- numbers-same, numbers-add: of bytes that are the same, and two runs one behind the other. get_four, le_four: four bytes as the code has them.
+-- numbers-same, numbers-add: of bytes that are the same, and two runs one behind the other.
 use mathlib.Core.Path.{◌≡◌, refl, sym, ap, ap₂, ◌∙◌}
 use mathlib.Core.List.{List, [], ◌∷◌, ◌++◌, append_assoc, append-nil}
 use Prim.Native.Nat.{ℕ, zero, suc, ◌≤◌, ◌<◌, ◌+◌, ◌*◌, ◌/◌, ◌%◌, ◌^◌}
@@ -155,18 +155,3 @@ run-numbers w b k o (suc n) bytes h =
     ap₂ ◌++◌ (le-get b bytes w (k + o) (omega (arith, m))) (run-numbers w b k (o + w) n bytes (omega (arith, m)) ∙ ap (λ (j : ℕ). take (w * n) (drop j b)) d ∙ ap (take (w * n)) (sym (drop-drop w (k + o) b)))
     ∙ sym (take-add w (w * n) (drop (k + o) b))
     ∙ ap (λ (j : ℕ). take j (drop (k + o) b)) (sym m)
-
--- ---- four bytes, as the code has them
-
-pub get_four : (b : List ℕ) (k : ℕ)
-    → get_or b k 0 + get_or b (k + 1) 0 * 256 + get_or b (k + 2) 0 * 65536 + get_or b (k + 3) 0 * 16777216 ≡ get 4 b k
-get_four b k =
-    let two : k + 1 + 1 ≡ k + 2 = omega arith in
-    let three : k + 2 + 1 ≡ k + 3 = omega arith in
-    rw (two, three) (omega arith)
-
-pub le_four : (x : ℕ) → x % 256 ∷ x / 256 % 256 ∷ x / 65536 % 256 ∷ x / 16777216 % 256 ∷ [] ≡ le 4 x
-le_four x =
-    let third : x / 256 / 256 % 256 ≡ x / 65536 % 256 = omega arith in
-    let fourth : x / 256 / 256 / 256 % 256 ≡ x / 16777216 % 256 = omega arith in
-    rw (third, fourth)

@@ -1,12 +1,11 @@
--- Laws of over: its length, one place more, two parts one behind the other, the stores that make a part, what stands behind it, and each place before and behind it. Assumes nothing.
-use mathlib.Core.Path.{◌≡◌, refl, sym, ap, ap₂, ◌∙◌}
+-- Laws of over: its length, one place more, two parts one behind the other, a part lent and given back, what stands behind it, and each place before and behind it. Assumes nothing.
+use mathlib.Core.Path.{◌≡◌, sym, ap, ap₂, ◌∙◌}
 use mathlib.Core.List.{List, [], ◌∷◌, ◌++◌, append_assoc, append-nil}
 use Prim.Native.Nat.{ℕ, suc, ◌≤◌, ◌<◌, ◌+◌, ◌-◌}
-use native.Mathlib.Numerals.{add-one}
 use native.Mathlib.Nat.{add-zero}
 use native.Mathlib.Omega.{arith}
-use lib.ListN.{length, take, drop, set, get_or, replicate, length-append, length-drop, length-replicate, take-append-drop, drop_of_length-le, replicate-append-replicate, get_or-append}
-use lib.Seq.{drop-cons, set_at, length-take-le, take_at, drop_at, drop-drop, take-suc, get_or-take, get_or-drop}
+use lib.ListN.{length, take, drop, set, get_or, length-append, length-drop, take-append-drop, drop_of_length-le, get_or-append}
+use lib.Seq.{drop-cons, set_at, length-take-le, take_at, drop_at, drop-drop, get_or-take, get_or-drop}
 use Rattle.lent.specs.Over.{over}
 
 module _ (b : List ℕ) (k : ℕ) where
@@ -74,35 +73,6 @@ over_all b vs e =
     let h : length b ≤ 0 + length vs = omega arith in
     ap (λ (l : List ℕ). vs ++ l) (drop_of_length-le b h) ∙ append-nil vs
 
-module _ (b : List ℕ) (k : ℕ) where
-  -- one store, two stores and four
-  pub over-one : (x : ℕ) → k < length b → set b k x ≡ over b k (x ∷ [])
-  over-one x h = ap (λ (l : List ℕ). set l k x) (sym (over_nil b k)) ∙ over_more b k [] x k (add-zero k) h
-
-  pub over-two : (x y : ℕ) → k + 2 ≤ length b → set (set b k x) (k + 1) y ≡ over b k (x ∷ y ∷ [])
-  over-two x y h =
-      ap (λ (l : List ℕ). set l (k + 1) y) (over-one x (omega arith)) ∙ over_more b k (x ∷ []) y (k + 1) refl (omega arith)
-
-  pub over_four : (x y z w : ℕ) → k + 4 ≤ length b
-      → set (set (set (set b k x) (k + 1) y) (k + 2) z) (k + 3) w ≡ over b k (x ∷ y ∷ z ∷ w ∷ [])
-  over_four x y z w h =
-      ap (λ (l : List ℕ). set (set l (k + 2) z) (k + 3) w) (over-two x y (omega arith))
-      ∙ ap (λ (l : List ℕ). set l (k + 3) w) (over_more b k (x ∷ y ∷ []) z (k + 2) refl (omega arith))
-      ∙ over_more b k (x ∷ y ∷ z ∷ []) w (k + 3) refl (omega arith)
-
-  -- a copy, one element more
-  pub over-take : (ws : List ℕ) (i : ℕ) → i < length ws → k + i < length b
-      → set (over b k (take i ws)) (k + i) (get_or ws i 0) ≡ over b k (take (i + 1) ws)
-  over-take ws i h l =
-      over_more b k (take i ws) (get_or ws i 0) (k + i) (ap (λ (j : ℕ). k + j) (length-take-le i ws (omega arith))) l
-      ∙ ap (over b k) (sym (take-suc ws i 0 h) ∙ ap (λ (j : ℕ). take j ws) (sym (add-one i)))
-
-  -- the same element once more
-  pub over_replicate : (v i : ℕ) → k + i < length b → set (over b k (replicate i v)) (k + i) v ≡ over b k (replicate (i + 1) v)
-  over_replicate v i l =
-      over_more b k (replicate i v) v (k + i) (ap (λ (j : ℕ). k + j) (length-replicate i v)) l
-      ∙ ap (over b k) (replicate-append-replicate i 1 v)
-
 -- a part's own elements, written again
 pub over_own : (b : List ℕ) (k n : ℕ) → k + n ≤ length b → over b k (take n (drop k b)) ≡ b
 unfolding over
@@ -112,14 +82,6 @@ over_own b k n h =
     ∙ ap (λ (x : List ℕ). take k b ++ (take n (drop k b) ++ x)) (sym (drop-drop n k b))
     ∙ ap (λ (x : List ℕ). take k b ++ x) (take-append-drop n (drop k b))
     ∙ take-append-drop k b
-
--- as long as before, while a part is written element by element
-module _ (b : List ℕ) (k : ℕ) where
-  pub over-take-length : (ws : List ℕ) (i : ℕ) → i ≤ length ws → k + length ws ≤ length b → length (over b k (take i ws)) ≡ length b
-  over-take-length ws i h l = over-length b k (take i ws) (omega (arith, length-take-le i ws h))
-
-  pub over_replicate_length : (v i n : ℕ) → i ≤ n → k + n ≤ length b → length (over b k (replicate i v)) ≡ length b
-  over_replicate_length v i n h l = over-length b k (replicate i v) (omega (arith, length-replicate i v))
 
 -- what stands behind a part that is replaced is kept
 module _ (b : List ℕ) (k : ℕ) (vs : List ℕ) (fits : k + length vs ≤ length b) where

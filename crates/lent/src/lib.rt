@@ -4,7 +4,7 @@
 
 #![tactic(auto)]
 
-ghost use Rattle.std.specs.Prelude.{◌≡◌, List, map, [], ◌∷◌, ℕ, ◌<◌, ◌≤◌, ◌+◌, ◌-◌, ◌*◌, length, replicate};
+ghost use Rattle.std.specs.Prelude.{◌≡◌, List, map, ℕ, ◌≤◌, ◌+◌, ◌-◌, ◌*◌, length, replicate};
 ghost use Rattle.lent.specs.Bytes.{get, le, numbers, run, zeros};
 ghost use Rattle.lent.specs.Over.{over};
 ghost use Rattle.lent.specs.Values.{same_map};
@@ -70,7 +70,7 @@ impl Number for u16 {
     }
 
     fn write(self, bytes: &mut [u8]) {
-        bytes.copy_from_slice(&self.to_le_bytes());
+        bytes.copy_from_slice(&u16::to_le_bytes(self));
     }
 }
 
@@ -90,7 +90,7 @@ impl Number for u32 {
     }
 
     fn write(self, bytes: &mut [u8]) {
-        bytes.copy_from_slice(&self.to_le_bytes());
+        bytes.copy_from_slice(&u32::to_le_bytes(self));
     }
 }
 
@@ -132,85 +132,12 @@ pub fn get_all<T: Number, const N: usize>(b: &[u8], at: usize) -> [T; N]
     all
 }
 
-// A byte as a number of two bytes.
-fn byte_u16(x: u8) -> u16
-    ensures { (result ≡ x) × (result < 256) }
-{
-    x as u16
-}
-
-// A byte as a number of four bytes.
-fn byte_u32(x: u8) -> u32
-    ensures { (result ≡ x) × (result < 256) }
-{
-    x as u32
-}
-
-// The number in the two bytes from `at` on.
-pub fn get_u16(b: &[u8], at: usize) -> u16
-    requires { at + 2 ≤ length b.now }
-    ensures { result ≡ get 2 b.now at }
-{
-    byte_u16(b[at]) + byte_u16(b[at + 1]) * 256
-}
-
-// The number in the four bytes from `at` on.
-pub fn get_u32(b: &[u8], at: usize) -> u32
-    requires { at + 4 ≤ length b.now }
-    ensures { result ≡ get 4 b.now at }
-{
-    byte_u32(b[at])
-        + byte_u32(b[at + 1]) * 256
-        + byte_u32(b[at + 2]) * 65536
-        + byte_u32(b[at + 3]) * 16777216
-}
-
-// Writes x to the byte at `at`.
-pub fn put_u8(b: &mut [u8], at: usize, x: u8)
-    requires { at + 1 ≤ length b.old }
-    ensures { b.new ≡ over b.old at (x ∷ []) }
-{
-    b[at] = x;
-}
-
-// Writes x to the two bytes from `at` on.
-pub fn put_u16(b: &mut [u8], at: usize, x: u16)
-    requires { at + 2 ≤ length b.old }
-    ensures { b.new ≡ over b.old at (le 2 x) }
-{
-    b[at] = (x % 256) as u8;
-    b[at + 1] = (x / 256) as u8;
-}
-
-// Writes x to the four bytes from `at` on.
-pub fn put_u32(b: &mut [u8], at: usize, x: u32)
-    requires { at + 4 ≤ length b.old }
-    ensures { b.new ≡ over b.old at (le 4 x) }
-{
-    b[at] = (x % 256) as u8;
-    b[at + 1] = (x / 256 % 256) as u8;
-    b[at + 2] = (x / 65536 % 256) as u8;
-    b[at + 3] = (x / 16777216) as u8;
-}
-
 // Writes all of `from` to the bytes from `at` on.
 pub fn copy(b: &mut [u8], at: usize, from: &[u8])
     requires { at + length from.now ≤ length b.old }
     ensures { b.new ≡ over b.old at from.now }
 {
     b[at..at + from.len()].copy_from_slice(from);
-}
-
-// Writes the numbers of `xs` to the bytes from `at` on, two bytes each.
-pub fn put_u16s(b: &mut [u8], at: usize, xs: &[u16])
-    requires { at + 2 * length xs.now ≤ length b.old }
-    ensures { b.new ≡ over b.old at (run 2 xs.now) }
-{
-    let mut i: usize = 0;
-    while i < xs.len() {
-        put_u16(b, at + 2 * i, xs[i]);
-        i += 1;
-    }
 }
 
 // Writes zero to `count` bytes from `at` on.
