@@ -151,14 +151,3 @@ pub fn check(t: Table) -> Result<(), Refusal>
     check_head(t.edition, t.count)?;
     check_body(t, false, 0, true)
 }
-
-// The old forms, until nobody calls them.
-
-pub fn fault(t: Table) -> Refusal
-    ensures { result ≡ fault_of t }
-{
-    match check(t) {
-        Ok(()) => table::refused(0, 0),
-        Err(refusal) => refusal,
-    }
-}
