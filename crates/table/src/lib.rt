@@ -52,6 +52,7 @@ pub struct Callback {
 }
 
 // The header's numbers, H as given, and sixteen places. Nobody looks at those beyond count; a reading leaves them blank.
+// A count beside an array, since memory is fixed; and count, kind and the others are any numbers, since the rules and `writer::write` are given any and refuse them.
 #[derive(Clone, Copy)]
 pub struct Table {
     pub edition: u8,

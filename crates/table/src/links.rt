@@ -47,6 +47,7 @@ pub fn heads(t: Table) -> u16
 }
 
 // The callback that the completion of an index activates; 0 where the index is, and where its chain ends.
+// Both are indices as the bytes of a table and of a state have them, with 0 for nobody: no Option, since the state's bytes may not change.
 pub fn next_after(t: Table, index: u8) -> u8
     requires { index ≤ places }
     ensures { result ≡ next_after t index }

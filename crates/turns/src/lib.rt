@@ -6,6 +6,8 @@
 pub mod choosing;
 pub mod steps;
 
+// An index is 0 for nobody here, and no Option, as the state's bytes have it and row 29 asks it.
+
 // Whom step 3 chooses (0: nobody), the cache then, whether it polled, and how many the poll took.
 #[derive(Clone, Copy)]
 pub struct Choice {

@@ -4,7 +4,7 @@ use Rattle.masks.proofs.Search.{first_below}
 use Rattle.masks.proofs.lowest.Goals as goal
 
 pub overflow_cast-result : goal.overflow_cast-result
-overflow_cast-result c = omega (arith, first_below c.before.args.mask c.before.ranges.mask.fits c.before.requires)
+overflow_cast-result c = omega (arith, first_below c.args.mask c.ranges.mask.fits c.requires)
 
 pub returns : goal.returns
-returns c = omega (arith, first_below c.before.args.mask c.before.ranges.mask.fits c.before.requires)
+returns c = omega (arith, first_below c.args.mask c.ranges.mask.fits c.requires)

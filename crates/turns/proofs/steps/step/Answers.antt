@@ -6,7 +6,7 @@ pub returns-then-turn-eq0 : goal.returns-then-turn-eq0
 returns-then-turn-eq0 c = step_nobody _ _ c.if-turn-eq0.true
 
 pub returns-then-turn-eq1 : goal.returns-then-turn-eq1
-returns-then-turn-eq1 c = step_last _ _ c.before.before.before.before.if-turn-eq0.false c.before.before.if-turn-eq1.true _ c.clear_slot.ensures
+returns-then-turn-eq1 c = step_last _ _ c.if-turn-eq0.false c.if-turn-eq1.true _ c.clear_slot.ensures
 
 pub returns : goal.returns
-returns c = step_more _ _ c.before.before.before.if-turn-eq0.false c.before.if-turn-eq1.false
+returns c = step_more _ _ c.if-turn-eq0.false c.if-turn-eq1.false
