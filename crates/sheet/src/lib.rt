@@ -18,7 +18,7 @@ use numbers::{MOST_WAITING, PLACES};
 use table::{Callback, Refusal, Row, Table};
 use windows::Chained;
 
-// What the analyser returns: the window, 0 where refused, and the refusal.
+// What the analyser returns, as C has it: the window, 0 where refused, and the refusal. `sheet_of`, which the theorems name, speaks of it.
 #[repr(C)]
 #[derive(Clone, Copy)]
 pub struct Sheet {
