@@ -1,4 +1,5 @@
-// The numbers of document 01, each under one name: limits, lengths, kinds and refusals. specs/Numbers.antt has the same for the definitions.
+// The numbers of document 01, each under one name: limits, lengths and editions. Kinds and refusals are the enums of `table`.
+// specs/Numbers.antt has all of them for the definitions.
 
 #![tactic(auto)]
 
@@ -26,68 +27,3 @@ pub const MOST_TICKS: u32 = 1000000000;
 pub const EDITION_ONE: u8 = 1;
 
 pub const EDITION_TWO: u8 = 2;
-
-// Kinds.
-pub const TIMER: u8 = 1;
-
-pub const SUBSCRIPTION: u8 = 2;
-
-pub const SERVICE: u8 = 3;
-
-pub const CLIENT: u8 = 4;
-
-// Refusals: header.
-pub const SHORT_HEADER: u8 = 1;
-
-pub const UNKNOWN_EDITION: u8 = 2;
-
-pub const WRONG_COUNT: u8 = 3;
-
-pub const WRONG_LENGTH: u8 = 4;
-
-pub const SPARE_NOT_ZERO: u8 = 5;
-
-pub const WRONG_SUPPLY: u8 = 6;
-
-pub const WRONG_DELAY: u8 = 22;
-
-pub const WRONG_HORIZON: u8 = 7;
-
-// Refusals: record.
-pub const WRONG_KIND: u8 = 8;
-
-pub const WRONG_NEXT: u8 = 9;
-
-pub const WRONG_ENTRIES: u8 = 10;
-
-pub const ABOVE_SUM: u8 = 24;
-
-// Refusals: links and arrivals.
-pub const NAMED_TWICE: u8 = 11;
-
-pub const TIMER_NAMED: u8 = 12;
-
-pub const LOOP: u8 = 13;
-
-pub const WRONG_ARRIVALS: u8 = 14;
-
-// Refusals: analyser and its row.
-pub const NO_WINDOW: u8 = 15;
-
-pub const TOO_MANY: u8 = 16;
-
-pub const SHORT_ROW: u8 = 17;
-
-// Refusals: writer.
-pub const SHORT_BUFFER: u8 = 23;
-
-// Refusals: tick.
-pub const TICKS_SPENT: u8 = 18;
-
-pub const WRONG_COST: u8 = 19;
-
-pub const NOT_A_HEAD: u8 = 20;
-
-pub const QUEUE_FULL: u8 = 21;
-
-pub const FAULTY_STATE: u8 = 29;
