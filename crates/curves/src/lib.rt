@@ -22,7 +22,8 @@ pub fn arrivals(period: u32, jitter: u32, distance: u32, length: u32) -> u32
     periodic.min(spaced)
 }
 
-// E(count): the cost of that many consecutive instances, at most, by the first `used` of the entries.
+// E(count): the cost of that many consecutive instances, at most, by the first `used` of the entries; eight places, as a record has them, since nothing
+// here allocates.
 pub fn cost(entries: [u16; 8], used: u8, count: u32) -> u64
     requires { (1 ≤ used) × (used ≤ 8) }
     ensures { (result ≡ cost_of (take used entries) count) × (result ≤ 65535 * count) }

@@ -10,7 +10,8 @@ mod state;
 mod ticks;
 
 // The state: the table, and with it the edition; instances waiting and finished of each callback, the cache, the running callback's index
-// (0 where nothing runs), its units left, and the ticks taken.
+// (0 where nothing runs), its units left, and the ticks taken. The arrays, and the index and the units side by side, are what the lent bytes hold: row 29
+// refuses values of them that do not go together, so that no Option and no invariant can stand for it.
 #[derive(Clone, Copy)]
 pub struct Machine {
     pub table: table::Table,

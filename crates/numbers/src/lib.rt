@@ -23,7 +23,8 @@ pub const MOST_WAITING: u16 = 255;
 
 pub const MOST_TICKS: u32 = 1000000000;
 
-// Editions: timers overtake the cache, or wait for a polling point as the rest do.
+// Editions: timers overtake the cache, or wait for a polling point as the rest do. Numbers and no enum: a table has any number there until it is read,
+// and `turns::choosing::polled` answers for any.
 pub const EDITION_ONE: u8 = 1;
 
 pub const EDITION_TWO: u8 = 2;

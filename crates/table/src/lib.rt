@@ -14,7 +14,8 @@ pub mod rows;
 pub use kinds::{Kind, UnknownKind};
 pub use rows::Row;
 
-// The number and the callback index that document 01's table of refusals gives; number 0 where nothing is refused.
+// The number and the callback index that document 01's table of refusals gives; number 0 where nothing is refused. Two numbers and no enum, since C gets
+// them as they are.
 #[repr(C)]
 #[derive(Clone, Copy)]
 pub struct Refusal {

@@ -82,7 +82,7 @@ fn table_of(
     t
 }
 
-// Writes the described table into the lent buffer, as `write` does.
+// Writes the described table into the lent buffer, as `write` does. Its numbers come one by one, as C gives them (`cuorfelt_write`).
 pub fn write(
     edition: u16,
     count: u16,
