@@ -1,4 +1,5 @@
-// The effect of a tick that nothing refuses: steps 1 to 4 in turn.
+// The effect of a tick that nothing refuses: steps 1 to 4 in turn. An index of 0 is nobody's, as in the bytes of a state and in the
+// definitions that row 29 and the steps go by (`instance_at`, `completed_by`, `finished_of`), so that it stays a number.
 
 ghost use Rattle.std.specs.Prelude.{◌≡◌, ℕ, suc, ◌+◌, ◌≤◌, ◌<◌, Ok};
 ghost use Rattle.numbers.specs.Numbers.{places, most_ticks, most_waiting};
