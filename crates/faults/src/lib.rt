@@ -54,7 +54,7 @@ impl Slot {
     }
 }
 
-// Whether any slot is at fault.
+// Whether any slot is at fault. The parts of the state stand apart, as `Machine` has them in fields of its own: `executor` stands above.
 pub fn slots_fault(
     t: Table,
     cache: u16,
