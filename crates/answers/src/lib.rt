@@ -22,7 +22,7 @@ pub type Outcome = Result<Answer, Refusal>;
 
 // The reply of a tick: the refusal's number and index, the answer (0 refused, 1 no supply, 2 idle, 3 ran, 4 finished) with
 // its callback and instance, flags for a start and for a polling point, with the number of callbacks that it put in the cache, and the mask
-// of the timers whose beat was folded.
+// of the timers whose beat was folded. Numbers and flags, since C gets them as they are.
 #[repr(C)]
 #[derive(Clone, Copy)]
 pub struct Reply {
@@ -48,7 +48,7 @@ pub fn finished(outcome: Outcome) -> u8
 }
 
 impl Reply {
-    // The reply of an outcome, with what stands beside it.
+    // The reply of an outcome, with what stands beside it, one by one, since `Ticked` stands above, in `executor`.
     pub fn new(outcome: Outcome, started: bool, polled: bool, gathered: u8, folded: u16) -> Reply
         ensures { result ≡ reply_of outcome started polled gathered folded }
     {

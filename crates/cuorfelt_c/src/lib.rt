@@ -1,4 +1,5 @@
-// The static library for hosts written in C: the functions of the crate `cuorfelt`, each under its own name and with its own clauses.
+// The static library for hosts written in C: the functions of the crate `cuorfelt`, each under its own name and with its own clauses, again since a crate is a
+// library or a static one.
 // include/cuorfelt.h declares what is exported here.
 
 #![tactic(auto)]

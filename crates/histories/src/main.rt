@@ -16,7 +16,7 @@ fn print_refusal(r: Refusal) {
     frames::print(b"\n");
 }
 
-// The answer's number, its callback and its instance.
+// The answer's number, its callback and its instance: numbers of the program's own, which agree with those of a reply.
 fn print_answer(answer: Answer) {
     let (number, callback, instance) = match answer {
         Answer::NoSupply => (1, 0, 0),

@@ -1,6 +1,6 @@
 // Numbers in lent bytes, little-endian: read and written at any byte, and runs of bytes copied, zeroed and tested for zero.
 // A write replaces just the bytes that it names and keeps every other one: `over` of specs/Over.antt. The caller sees that they lie
-// inside what is lent.
+// inside what is lent: that is a fact of a place and not of a value, so that it is a clause at each and no type's.
 
 #![tactic(auto)]
 

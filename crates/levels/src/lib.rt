@@ -41,7 +41,7 @@ fn bound_of_all(t: &Chained, x: usize, window: u32) -> u32
     t.bound(everyone(t), x, window)
 }
 
-// Whether slot x has a higher priority than slot i.
+// Whether slot x has a higher priority than slot i, in the words of `precedes`: a pair of kind and slot for each would say it again.
 fn goes_before(t: &Chained, x: usize, i: usize) -> bool
     requires { (x < places) × (i < places) }
     ensures { result ≡ precedes t.now.table x i }
@@ -112,7 +112,8 @@ fn overtakes(t: &Chained, x: usize) -> bool
     t.table.edition == EDITION_ONE && t.table.callbacks[x].kind == Kind::Timer as u8
 }
 
-// The number of slot x in the row.
+// The number of slot x in the row. That x is a slot of the table and `window` the table's are clauses and no type's: they are facts of two values, and
+// `Chained::bound` takes a slot and the window of any level in the same way.
 pub fn bound(t: &Chained, x: usize, window: u32) -> u32
     requires { (x < t.now.table.count) × (window ≡ window_of t.now.table) × (window ≤ longest) }
     ensures { (result ≡ bound_of t.now.table x) × (result ≤ longest) }

@@ -76,7 +76,8 @@ fn first_wrong(t: Table, heads: u16) -> Option<u8>
     None
 }
 
-// Refuses what is wrong with the links, then with the arrivals.
+// Refuses what is wrong with the links, then with the arrivals. That the names are known stays a clause: `check_body` has just tested it, and a type would
+// be made for this one call.
 pub fn check_links(t: Table) -> Result<(), Refusal>
     requires { (t.count ≤ places) × (names_known t ≡ true) }
     ensures { result ≡ unless (links_fault t) tt }

@@ -9,7 +9,8 @@ ghost use Rattle.masks.specs.Mask.{has, with_bit, without_bit, count_of};
 ghost use Rattle.std.specs.Iterator.{at_most};
 ghost use Rattle.masks.specs.Parts.{except, first_of, first_index, some_index, takes_lowest};
 
-// Whether the mask has the slot.
+// Whether the mask has the slot. That a slot is below 16 is a clause here and elsewhere and no type's: callers count slots as numbers, and a narrower type
+// would ask more of them.
 pub fn test_slot(mask: u16, slot: u16) -> bool
     requires { slot < 16 }
     ensures { result ≡ has mask slot }
@@ -40,7 +41,7 @@ pub fn count(mask: u16) -> u32
     mask.count_ones()
 }
 
-// The lowest slot that the mask has, 16 where it has none.
+// The lowest slot that the mask has, 16 where it has none: the count of trailing zeros, as it is. `lowest_index` is the one with an Option.
 pub fn first(mask: u16) -> u32
     ensures { result ≡ first_of mask }
 {

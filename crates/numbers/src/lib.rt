@@ -23,8 +23,8 @@ pub const MOST_WAITING: u16 = 255;
 
 pub const MOST_TICKS: u32 = 1000000000;
 
-// Editions: timers overtake the cache, or wait for a polling point as the rest do. Numbers and no enum: a table has any number there until it is read,
-// and `turns::choosing::polled` answers for any.
+// Editions: timers overtake the cache, or wait for a polling point as the rest do. Numbers and no enum: `check_head` asks for a range and others for one of
+// the two, while `polled` answers for a table with any number.
 pub const EDITION_ONE: u8 = 1;
 
 pub const EDITION_TWO: u8 = 2;

@@ -18,7 +18,8 @@ pub fn arrive(waiting: [u16; 16], mask: u16) -> [u16; 16]
     counts
 }
 
-// The waiting counts after a completion: one fewer for the slot, one more for the callback of the index; index 0 ends the chain.
+// The waiting counts after a completion: one fewer for the slot, one more for the callback of the index; index 0 ends the chain,
+// as a record's next does.
 pub fn complete(waiting: [u16; 16], slot: u8, next: u8) -> [u16; 16]
     requires { (slot < places) × (next ≤ places) × (0 < get_or waiting slot 0) × ((i : ℕ) → i < places → get_or waiting i 0 ≤ most_waiting + 1) }
     ensures { result ≡ completed slot next waiting }

@@ -22,7 +22,7 @@ pub fn read_all(mut input: Stdin, buf: &mut [u8]) -> Result<usize>
     Ok(done)
 }
 
-// What a program does once its input was read, as bytes and whether a read failed: gives the status to end with.
+// What a program does once its input was read, as bytes and whether a read failed, as both `conclude` take them: gives the status to end with.
 // No table has more than 528 bytes. An input that fills the buffer has more, and is refused by its first bytes and its length, as all of it would be.
 pub fn on_input<F: FnOnce(&mut [u8], bool) -> u8>(input: Stdin, conclude: F) -> u8
     requires callable { F.IsAlwaysCallable conclude }

@@ -29,7 +29,8 @@ pub const REFUSED: u8 = 1;
 
 pub const FAILED: u8 = 2;
 
-// What the analyser returned, and whether all of it was written. No Result, since `report` promises the sheet also where it was not written.
+// What the analyser returned, and whether all of it was written. No Result, since `report` promises the sheet also where it was not written; and no type in
+// common with `Rewritten`, since the clauses of both name their fields.
 #[derive(Clone, Copy)]
 pub struct Printed {
     pub sheet: Sheet,
@@ -55,7 +56,7 @@ fn print_window(window: u16) -> bool {
         && io::write_all(STDOUT_FILENO, b"\n")
 }
 
-// A line for each bound: index and bound. A bound is at least 1, so that the first 0 ends the row.
+// A line for each bound: index and bound. A bound is at least 1, so that the first 0 ends the row: a sheet, as C has it, does not say how many there are.
 fn print_bounds(row: &[u16]) -> bool {
     row.iter()
         .take_while(|bound| **bound != 0)
@@ -111,7 +112,7 @@ fn fail(words: &[u8]) -> u8
 }
 
 // The program `bounds` once its input was read, as bytes and whether a read failed behind them: prints their sheet and gives the status to end
-// with, FAILED after a word on standard error.
+// with, FAILED after a word on standard error. A flag beside the bytes and no Result, since `Ends` has both.
 pub fn conclude(bytes: &[u8], unread: bool) -> u8
     ensures { Ends bytes.now unread result }
 {

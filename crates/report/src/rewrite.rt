@@ -36,7 +36,7 @@ pub fn rewrite(bytes: &mut [u8]) -> Rewritten
 }
 
 // The program `normalise` once its input was read, as bytes and whether a read failed behind them: writes the table or its refusal and gives the
-// status to end with, FAILED after a word on standard error.
+// status to end with, FAILED after a word on standard error. A flag beside the bytes and no Result, since `Rewrites` has both.
 pub fn conclude(bytes: &mut [u8], unread: bool) -> u8
     ensures { Rewrites bytes.old unread bytes.new result }
 {

@@ -47,7 +47,8 @@ pub fn heads(t: Table) -> u16
 }
 
 // The callback that the completion of an index activates; 0 where the index is, and where its chain ends.
-// Both are indices as the bytes of a table and of a state have them, with 0 for nobody: no Option, since the state's bytes may not change.
+// Both are indices as a record has its next, with 0 for nobody, and no Options: the definitions `finished_of`, `left` and `instance_at` hand them on so,
+// and an Option would be made and taken apart at each.
 pub fn next_after(t: Table, index: u8) -> u8
     requires { index ≤ places }
     ensures { result ≡ next_after t index }

@@ -10,7 +10,7 @@ use answers::Answer;
 use priority::by_kind;
 use table::Table;
 
-// Step 3: the turn of the callback that runs, or of the one chosen.
+// Step 3: the turn of the callback that runs, or of the one chosen. The parts of the state come one by one: `Machine` stands above, in `executor`.
 pub fn turn(t: Table, waiting: [u16; 16], cache: u16, running: u8, units: u16, cost: u16) -> Turn
     requires { t.count ≤ places }
     ensures { result ≡ turn_of t waiting cache running units cost }

@@ -33,7 +33,8 @@ impl Level {
     }
 }
 
-// a of a head in a window of `length` ticks.
+// a of a head in a window of `length` ticks. The bounds of a length and of a record are clauses, here and below: a type for either would be made at each
+// step of the search.
 pub fn arrivals(head: Callback, length: u32) -> u32
     requires { Spaced head × (length ≤ longest) }
     ensures { (result ≡ head_arrivals head length) × (result ≤ length) }
@@ -57,7 +58,8 @@ fn work(c: Callback, head: Callback, length: u32) -> u64
     curves::cost(entries, c.used, count)
 }
 
-// A table without faults, with the head of each slot's chain, for the slots below count.
+// A table without faults, with the head of each slot's chain, for the slots below count. The heads stand beside the table and not in its records: a record
+// is what the bytes hold.
 #[derive(Clone, Copy)]
 pub struct Chained {
     pub table: Table,
@@ -95,7 +97,8 @@ impl Chained {
         sum
     }
 
-    // The least length whose supply is at least a demand; for a demand above `most` the length past `most`.
+    // The least length whose supply is at least a demand; for a demand above `most` the length past `most`, and no Option: the search compares it, and ends
+    // there.
     #[tactic(auto, unfolding(crate::specs::Parts::reach_of))]
     fn reach(&self, most: u32, demand: u64) -> u32
         requires { most ≤ longest }

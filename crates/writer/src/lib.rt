@@ -81,7 +81,7 @@ fn put_table(b: &mut [u8], t: Table)
     }
 }
 
-// What writing gives where it is refused.
+// What writing gives where it is refused. No From, since a Written is made of a length in one other place alone, below.
 fn refusing(r: Refusal) -> Written
     ensures { result ≡ refused_writing r }
 {
