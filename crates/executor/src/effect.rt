@@ -32,8 +32,9 @@ impl Machine {
         requires { (Room most_waiting self) × (folded ≡ folded_in self mask) }
         ensures { result ≡ arrive self mask }
     {
-        let waiting = queues::arrivals::arrive(self.waiting, masks::outside(mask, folded));
-        Machine { waiting, ..self }
+        let mut m = self;
+        m.waiting = queues::arrivals::arrive(self.waiting, masks::outside(mask, folded));
+        m
     }
 
     // Step 2: a tick without supply ends with the arrivals.
@@ -42,11 +43,10 @@ impl Machine {
         requires { self.clock < most_ticks }
         ensures { result ≡ unsupplied self folded }
     {
+        let mut machine = self;
+        machine.clock = self.clock + 1;
         Ticked {
-            machine: Machine {
-                clock: self.clock + 1,
-                ..self
-            },
+            machine,
             outcome: Ok(Answer::NoSupply),
             started: false,
             polled: false,
@@ -88,14 +88,13 @@ impl Machine {
         ensures { result ≡ ticked self folded x s }
     {
         let outcome = Ok(s.answer);
+        let mut machine = self.completed(finished(outcome));
+        machine.cache = s.cache;
+        machine.running = s.running;
+        machine.units = s.units;
+        machine.clock = self.clock + 1;
         Ticked {
-            machine: Machine {
-                cache: s.cache,
-                running: s.running,
-                units: s.units,
-                clock: self.clock + 1,
-                ..self.completed(finished(outcome))
-            },
+            machine,
             outcome,
             started: x.started,
             polled: x.polled,

@@ -135,9 +135,6 @@ module _ (c : Callback) (whole : length c.entries ≡ entry_places) where
 
 -- ---- the records in turn
 
-pub records_start : (sums : Bool) (spares : ℕ) (t : Table) (n : ℕ) → records_by sums spares t (n - 0) 0 ≡ records_by sums spares t n 0
-records_start sums spares t n = ap (λ (k : ℕ). records_by sums spares t k 0) (omega arith)
-
 module _ (sums : Bool) (spares : ℕ) (t : Table) (n i : ℕ) where
   pub records_end : n ≤ i → records_by sums spares t (n - i) i ≡ accepted
   unfolding records_by

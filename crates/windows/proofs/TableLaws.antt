@@ -1,16 +1,11 @@
 -- What a table that the reader accepts ensures of its curves: spaced, costed, sound_rising, level_rising, sound_inverse. head_own: whether a slot leads itself.
--- horizon_in: the horizon is a length that curves can be asked for. heads_more: the heads of the slots, as a loop writes them.
-use mathlib.Core.Path.{◌≡◌, refl, sym, ap, subst, ◌∙◌}
-use mathlib.Core.Logic.{◌⊎◌, inl, inr}
+-- horizon_in: the horizon is a length that curves can be asked for.
+use mathlib.Core.Path.{◌≡◌, refl, sym, subst}
 use mathlib.Core.Bool.{Bool, true, false, not}
-use mathlib.Core.List.{List}
-use Prim.Native.Nat.{ℕ, ◌+◌, ◌≤◌, ◌<◌}
-use native.Mathlib.Nat.{le_refl, eq-or-lt_of_le, le_of_suc-le-suc}
-use native.Mathlib.Numerals.{add-one}
+use Prim.Native.Nat.{ℕ, ◌≤◌, ◌<◌}
+use native.Mathlib.Nat.{le_refl}
 use native.Mathlib.Omega.{arith}
 use lib.Dec.{eqb}
-use lib.ListN.{length, get_or, set}
-use lib.Seq.{get_or-set_same, get_or-set_other}
 use borrow.Author.Tests.{eq-eqb, ne_eqb}
 use Rattle.masks.specs.Mask.{has}
 use Rattle.curves.specs.Parts.{Rising, Inverse}
@@ -87,12 +82,3 @@ module _ (t : Table) (so : Sound t) where
       go : (b : Bool) → elim b [ true ↦ longest | false ↦ t.horizon ] ≤ longest
       go true = le_refl longest
       go false = so.horizon_le
-
--- one head more, as a loop writes it
-pub heads_more : (t : Table) (heads : List ℕ) (i v : ℕ) → i < length heads → ((j : ℕ) → j < i → get_or heads j 0 ≡ head_of t j) → v ≡ head_of t i
-    → (j : ℕ) → j < i + 1 → get_or (set heads i v) j 0 ≡ head_of t j
-heads_more t heads i v inside so e j l = go (eq-or-lt_of_le (le_of_suc-le-suc (subst (λ (k : ℕ). j < k) (add-one i) l)))
-  where
-    go : (j ≡ i) ⊎ (j < i) → get_or (set heads i v) j 0 ≡ head_of t j
-    go (inl p) = ap (λ (k : ℕ). get_or (set heads i v) k 0) p ∙ get_or-set_same heads i v 0 inside ∙ e ∙ ap (head_of t) (sym p)
-    go (inr k) = get_or-set_other heads i j v 0 (λ p. omega arith) ∙ so j k

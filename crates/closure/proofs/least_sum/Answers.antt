@@ -16,14 +16,6 @@ pub loop-j-init : goal.loop-j-init
 unfolding smallest
 loop-j-init c = let whole : Fits w16 (get_or c.args.entries c.args.k 0) = search rules in (omega arith, refl)
 
-pub overflow_add-sum : goal.overflow_add-sum
-overflow_add-sum c =
-    let a = c.args in
-    let l = c.loop-j in
-    let first : Fits w16 (get_or a.entries l.j 0) = search rules in
-    let rest : Fits w16 (get_or a.sums (a.k - l.j - 1) 0) = search rules in
-    omega arith
-
 pub loop-j-preserved : goal.loop-j-preserved
 loop-j-preserved c =
     let a = c.args in

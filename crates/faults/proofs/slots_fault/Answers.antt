@@ -1,6 +1,6 @@
 use mathlib.Core.Path.{refl, sym, ◌∙◌}
 use Rattle.ranges.specs.Every.{some}
-use Rattle.ranges.proofs.EveryLaws.{some-hit, some_more, some_fewer}
+use Rattle.ranges.proofs.EveryLaws.{some-hit, some_more}
 use Rattle.numbers.specs.Numbers.{places}
 use Rattle.faults.specs.Faults.{slot_fault}
 use Rattle.faults.proofs.ValueLaws.{slot_is}
@@ -21,8 +21,3 @@ loop-i-preserved c =
     let a = c.args in
     let found = slot_is a.t _ _ _ a.waiting a.finished _ _ _ _ c.test_slot.ensures c.polled.ensures c.fault.ensures in
     some_more (slot_fault a.t a.cache a.running a.waiting a.finished a.clock) _ c.loop-i.invariant (found ∙ c.if-fault.false)
-
-pub returns : goal.returns
-returns c =
-    let a = c.args in
-    sym (some_fewer (slot_fault a.t a.cache a.running a.waiting a.finished a.clock) places _ c.loop-i.invariant c.loop-i-test.false)

@@ -1,10 +1,7 @@
 -- `folds` meets its contract: case by case.
-use Rattle.folding.proofs.FoldingLaws.{folds_not, folds_behind, folds_other}
+use Rattle.folding.proofs.FoldingLaws.{folds_behind, folds_other}
 use native.Mathlib.Omega.{arith}
 use Rattle.folding.proofs.folds.Goals as goal
-
-pub returns-then-kind : goal.returns-then-kind
-returns-then-kind c = (let a = c.args in folds_not a.kind a.waiting a.running a.slot c.if-kind.true)
 
 pub returns-then-running-slot : goal.returns-then-running-slot
 returns-then-running-slot c = (let a = c.args in folds_behind a.kind a.waiting a.running a.slot (omega (arith, c.if-kind.false)) (omega (arith, c.if-running-slot.true)))

@@ -1,6 +1,3 @@
-use mathlib.Core.Path.{◌≡◌, ap, ◌∙◌}
-use Prim.Native.Nat.{◌-◌}
-use Rattle.lent.specs.Bytes.{zeros}
 use Rattle.lent.proofs.Spare.{zeros-none, zeros_more}
 use native.Mathlib.Omega.{arith}
 use Rattle.lent.proofs.all_zero.Goals as goal
@@ -12,10 +9,3 @@ pub loop-i-preserved : goal.loop-i-preserved
 loop-i-preserved c =
     let l = c.loop-i in
     (omega arith, zeros_more c.args.b.now c.args.from l.i l.any l.auto.i l.invariant.1)
-
-pub returns : goal.returns
-returns c =
-    let a = c.args in
-    let l = c.loop-i in
-    let end : l.i - a.from ≡ a.to - a.from = omega arith in
-    l.invariant.1 ∙ ap (zeros a.b.now a.from) end

@@ -6,7 +6,6 @@ use Rattle.ranges.specs.Sum.{given}
 use Rattle.ranges.specs.Least.{largest}
 use Rattle.ranges.proofs.LeastLaws.{largest_more}
 use Rattle.windows.specs.Bounds.{cost_of}
-use Rattle.windows.proofs.TableLaws.{costed}
 use Rattle.levels.specs.Levels.{blocking_by}
 use Rattle.levels.specs.Parts.{single_of}
 use Rattle.levels.proofs.blocking.Invariants.{one}
@@ -16,9 +15,6 @@ use Rattle.levels.proofs.blocking.Goals.{then-test_slot, else-test_slot}
 pub loop-i-init : goal.loop-i-init
 unfolding largest
 loop-i-init c = (refl, omega arith)
-
-pub single-requires : goal.single-requires
-single-requires c = costed _ c.args.t.now.headed.sound _ c.loop-i-test.true
 
 -- either way the largest is that of one slot more
 pub loop-i-preserved : goal.loop-i-preserved

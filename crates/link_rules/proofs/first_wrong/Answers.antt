@@ -6,14 +6,11 @@ use Prim.Native.Nat.{ℕ}
 use Rattle.masks.specs.Mask.{has}
 use Rattle.table.specs.declared.Table.{Table}
 use Rattle.masks.specs.Parts.{some_index}
-use Rattle.ranges.proofs.LeastLaws.{slots_start, slots_end, slots_hit, slots_miss}
+use Rattle.ranges.proofs.LeastLaws.{slots_end, slots_hit, slots_miss}
 use Rattle.table.specs.Values.{callback_at}
 use Rattle.link_rules.specs.LinkRules.{arrivals_fault}
 use Rattle.link_rules.proofs.first_wrong.Invariants.{wrong}
 use Rattle.link_rules.proofs.first_wrong.Goals as goal
-
-pub loop-i-init : goal.loop-i-init
-loop-i-init c = slots_start _ _
 
 -- what the code finds of a slot
 found : (heads : ℕ) (t : Table) (i : ℕ) (head b : Bool) → head ≡ has heads i → b ≡ arrivals_fault head (callback_at t i) → wrong heads t i ≡ b

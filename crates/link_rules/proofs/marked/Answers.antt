@@ -2,12 +2,9 @@ use mathlib.Core.Path.{sym, ap, ◌∙◌}
 use Prim.Native.Nat.{ℕ, ◌+◌, ◌-◌}
 use native.Mathlib.Omega.{arith}
 use Rattle.table.specs.Values.{next_of}
-use Rattle.link_rules.proofs.LoopLaws.{marks_start, marks-over, marks_end, marks_more, known}
+use Rattle.link_rules.proofs.LoopLaws.{marks-over, marks_end, marks_more, known}
 use Rattle.link_rules.specs.Parts.{marks}
 use Rattle.link_rules.proofs.marked.Goals as goal
-
-pub loop-init : goal.loop-init
-loop-init c = (c.requires.1, marks_start _ _ _ _)
 
 pub returns-then-at-eq0 : goal.returns-then-at-eq0
 returns-then-at-eq0 c =

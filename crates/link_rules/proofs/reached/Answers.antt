@@ -1,8 +1,7 @@
 use mathlib.Core.Path.{sym, ap, ◌∙◌}
-use native.Mathlib.Nat.{le_antisymm}
 use Rattle.table.specs.Values.{next_of}
 use Rattle.link_rules.proofs.LoopLaws.{reached_start, reached_in, reached_out}
-use Rattle.link_rules.specs.Parts.{marks, reached_to}
+use Rattle.link_rules.specs.Parts.{marks}
 use Rattle.link_rules.proofs.reached.Goals as goal
 use Rattle.link_rules.proofs.reached.Goals.{then-test_slot, else-test_slot}
 
@@ -18,6 +17,3 @@ loop-i-preserved c =
       | then-test_slot w ↦ w.met-is ∙ w.marked-met.ensures ∙ ap (marks (next_of a.t) a.t.count _) l.invariant ∙ reached_in a.t a.heads l.i (sym test ∙ w.if-test_slot.true)
       | else-test_slot w ↦ w.met-is ∙ l.invariant ∙ reached_out a.t a.heads l.i (sym test ∙ w.if-test_slot.false)
     ]
-
-pub returns : goal.returns
-returns c = c.loop-i.invariant ∙ ap (reached_to c.args.t c.args.heads) (le_antisymm c.loop-i.auto.i-end c.loop-i-test.false)

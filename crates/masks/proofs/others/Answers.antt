@@ -6,12 +6,6 @@ use lib.Bits.{bit_and}
 use Rattle.masks.proofs.Operators.{and_not, one_shl_32}
 use Rattle.masks.proofs.others.Goals as goal
 
-pub overflow_sub-all : goal.overflow_sub-all
-overflow_sub-all c = omega (arith, one_shl_32 c.args.n c.requires)
-
-pub overflow_cast-all : goal.overflow_cast-all
-overflow_cast-all c = omega (arith, one_shl_32 c.args.n c.requires)
-
 pub returns : goal.returns
 returns c =
     let a = c.args in

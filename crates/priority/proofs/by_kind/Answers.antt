@@ -1,8 +1,8 @@
-use mathlib.Core.Path.{ap, ap₂, ◌∙◌}
+use mathlib.Core.Path.{ap₂, ◌∙◌}
 use borrow.Author.Rules.{rules}
 use Rattle.masks.specs.Mask.{gather}
 use Rattle.table.specs.declared.Callback.{Callback}
-use Rattle.table.proofs.UsedLaws.{used-at, used_end}
+use Rattle.table.proofs.UsedLaws.{used-at}
 use Rattle.priority.specs.declared.Kinds.{Kinds}
 use Rattle.priority.specs.Parts.{kinds_to, sort_one}
 use Rattle.priority.proofs.PriorityLaws.{kinds_more}
@@ -17,9 +17,3 @@ loop-i-preserved c =
     let t = c.args.t in
     let l = c.loop-i in
     c.sort_one-k.ensures ∙ ap₂ (λ (k : Kinds) (x : Callback). sort_one k x.kind l.i) l.invariant (used-at t l.i c.loop-i-test.true) ∙ kinds_more t l.i
-
-pub returns : goal.returns
-returns c =
-    let t = c.args.t in
-    let l = c.loop-i in
-    l.invariant ∙ ap (kinds_to t) (used_end t l.i c.requires (search rules) l.auto.i-end c.loop-i-test.false)

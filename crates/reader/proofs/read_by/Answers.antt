@@ -38,15 +38,6 @@ head_zero c = (ok_passed _ _ _ (sym c.check_head.ensures ∙ c.in_ok-check_head.
 few : (c : In_ok-check_head) → get_or c.args.bytes.now 1 0 ≤ places
 few c = (head_passed _ _ (head_zero c)).few
 
-pub overflow_cast-n : goal.overflow_cast-n
-overflow_cast-n c = omega (arith, few c)
-
-pub overflow_mul-n : goal.overflow_mul-n
-overflow_mul-n c = omega (arith, few c)
-
-pub overflow_add-n : goal.overflow_add-n
-overflow_add-n c = omega (arith, few c)
-
 pub returns-then-bytes-n : goal.returns-then-bytes-n
 returns-then-bytes-n c =
     let a = c.args in

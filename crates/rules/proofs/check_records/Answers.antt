@@ -6,11 +6,8 @@ use Rattle.table.proofs.RowLaws.{some_number}
 use Rattle.table.proofs.RefusalLaws.{refused}
 use Rattle.rules.specs.Parts.{row_number}
 use Rattle.rules.specs.Rules.{record_fault_by}
-use Rattle.rules.proofs.RulesLaws.{records_next, records_stop, records_end, records_start}
+use Rattle.rules.proofs.RulesLaws.{records_next, records_stop, records_end}
 use Rattle.rules.proofs.check_records.Goals as goal
-
-pub loop-i-init : goal.loop-i-init
-loop-i-init c = records_start _ _ _ _
 
 pub returns-in-Err : goal.returns-in-Err
 returns-in-Err c =

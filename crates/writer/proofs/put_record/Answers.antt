@@ -1,16 +1,10 @@
 -- What stands before the cost entries, the entries, and zeros behind them are the record's bytes.
 use mathlib.Core.Path.{◌≡◌}
 use lib.ListN.{length}
-use native.Mathlib.Omega.{arith}
 use borrow.Author.Rules.{rules}
 use Rattle.numbers.specs.Numbers.{entry_places}
 use Rattle.writer.proofs.WriterLaws.{record_parts}
 use Rattle.writer.proofs.put_record.Goals as goal
-
-pub put_all-requires : goal.put_all-requires
-put_all-requires c =
-    let eight : length c.args.c.entries ≡ entry_places = search rules in
-    omega (arith, c.requires, eight, c.put_front.auto.b)
 
 pub returns : goal.returns
 returns c =

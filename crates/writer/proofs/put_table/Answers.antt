@@ -28,9 +28,6 @@ loop-i-preserved c =
           ∙ records_more t l.i l.invariant.1 r.ensures.1 c.put_header.new.b (omega (arith, c.requires.1, c.put_header.auto.b)),
     )
 
-pub shape_of-b : goal.shape_of-b
-shape_of-b c = c.loop-i.invariant.0 ∙ c.put_header.auto.b
-
 pub returns : goal.returns
 returns c =
     let l = c.loop-i in

@@ -3,8 +3,8 @@ use mathlib.Core.Path.{sym, ◌∙◌}
 use Rattle.executor.proofs.EffectLaws.{after_law}
 use Rattle.executor.proofs.Machine.after.Goals as goal
 
-pub completed-requires : goal.completed-requires
-completed-requires c i e = c.requires.1 i (sym c.finished.ensures ∙ e)
+pub completed-machine-requires : goal.completed-machine-requires
+completed-machine-requires c i e = c.requires.1 i (sym c.finished.ensures ∙ e)
 
 pub returns : goal.returns
-returns c = after_law c.args.self _ c.args.x c.args.s _ _ c.finished.ensures c.completed.ensures
+returns c = after_law c.args.self _ c.args.x c.args.s _ _ c.finished.ensures c.completed-machine.ensures

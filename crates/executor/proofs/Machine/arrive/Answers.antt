@@ -13,4 +13,4 @@ pub returns : goal.returns
 returns c =
     let m : Machine = c.args.self in
     ap (λ (ws : List ℕ). with_counts m ws m.finished)
-    (c.arrive-waiting.ensures ∙ ap (λ (k : ℕ). arrived k m.waiting) (c.outside.ensures ∙ ap (except c.args.mask) c.requires.1 ∙ kept_mask c.args.mask _ c.ranges.mask.fits))
+    (c.arrive-m.ensures ∙ ap (λ (k : ℕ). arrived k m.waiting) (c.outside.ensures ∙ ap (except c.args.mask) c.requires.1 ∙ kept_mask c.args.mask _ c.ranges.mask.fits))

@@ -1,12 +1,9 @@
-use mathlib.Core.Path.{refl, sym, ap, ap₂, ◌∙◌}
+use mathlib.Core.Path.{refl, sym, ◌∙◌}
 use mathlib.Core.List.{List}
 use Prim.Native.Nat.{ℕ}
-use borrow.Author.Rules.{rules}
 use Rattle.masks.specs.Mask.{gather}
 use Rattle.table.specs.declared.Table.{Table}
-use Rattle.table.proofs.UsedLaws.{used_end}
 use Rattle.turns.specs.declared.Waits.{Waits}
-use Rattle.turns.specs.Parts.{waits_of}
 use Rattle.turns.proofs.ChooseLaws.{polled_at, one-polled, one_unpolled, one-idle}
 use Rattle.turns.proofs.choosing.waiting_slots.Goals as goal
 use Rattle.turns.proofs.choosing.waiting_slots.Goals.{then-waiting-i-gt0+then-polled, then-waiting-i-gt0+else-polled, else-waiting-i-gt0}
@@ -39,8 +36,3 @@ loop-i-preserved c =
 
     i : ℕ
     i = c.loop-i.i
-
-pub returns : goal.returns
-returns c =
-    ap₂ slots c.loop-i.invariant.0 c.loop-i.invariant.1
-    ∙ ap (waits_of c.args.t c.args.waiting) (used_end c.args.t c.loop-i.i c.requires (search rules) c.loop-i.auto.i-end c.loop-i-test.false)

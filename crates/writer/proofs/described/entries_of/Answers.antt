@@ -1,7 +1,6 @@
-use mathlib.Core.Path.{◌≡◌, refl, sym, ap, ◌∙◌}
+use mathlib.Core.Path.{◌≡◌, refl, ap, ◌∙◌}
 use Prim.Native.Nat.{ℕ, ◌+◌, ◌*◌}
 use lib.ListN.{take, set, get_or, length-set}
-use lib.Seq.{take_all}
 use native.Mathlib.Omega.{arith}
 use Rattle.lent.specs.Bytes.{numbers}
 use Rattle.lent.proofs.Fields.{numbers-step}
@@ -20,10 +19,3 @@ loop-i-preserved c =
       ap (λ (x : ℕ). take (l.i + 1) (set l.entries l.i x)) (c.number_at.ensures ∙ ap (λ (k : ℕ). get_or a.numbers.now (a.at + k) 0) one)
           ∙ numbers-step 1 a.numbers.now l.entries a.at 6 l.i (omega arith) l.invariant.1,
     )
-
-pub returns : goal.returns
-returns c =
-    let a = c.args in
-    let l = c.loop-i in
-    let done : l.i ≡ 8 = omega arith in
-    sym (take_all l.i l.entries (omega (arith, l.invariant.0))) ∙ l.invariant.1 ∙ ap (numbers 1 a.numbers.now a.at 6) done
