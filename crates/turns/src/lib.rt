@@ -7,7 +7,8 @@ pub mod choosing;
 pub mod steps;
 
 // An index is 0 for nobody here, and no Option, as in the state that it is taken from and goes into, which row 29 judges; `polled` and `gathered` are two
-// fields, since a reply has both. A turn has the fields of a choice again, which say less there: a choice in it would be taken apart at each use.
+// fields, since a reply has both. A turn has the four fields of a choice again, and no choice: where something runs there was none, and each use would take
+// it apart.
 
 // Whom step 3 chooses (0: nobody), the cache then, whether it polled, and how many the poll took.
 #[derive(Clone, Copy)]
