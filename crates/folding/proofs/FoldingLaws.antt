@@ -1,5 +1,5 @@
 -- Beats that are folded, and arrivals that are kept. Assumes nothing.
---   folds_not, folds_behind, folds_other   one beat, by its kind and by whether its callback runs
+--   folds_behind, folds_other              one beat, by its kind and by whether its callback runs
 --   Sifted, sifted, sifted_took, sifted_left, sifted_all   the slots of a mask that pass a test, looked at one after the other
 --   folded_none                            an empty mask
 --   kept-has, kept_mask, kept_in_lem, kept_most   what is kept, as a mask; it is in the mask; most where nothing is folded
@@ -14,7 +14,7 @@ use native.Mathlib.Decide.{ℕ_discrete}
 use native.Mathlib.Omega.{arith}
 use lib.Dec.{eqb, ltb}
 use lib.ListN.{get_or}
-use borrow.Author.Tests.{eq-eqb, ne_eqb, ltb-false}
+use borrow.Author.Tests.{eq-eqb, ltb-false}
 use Rattle.masks.specs.Mask.{has, with_bit, without_bit, gather}
 use Rattle.masks.specs.Parts.{except}
 use Rattle.masks.proofs.Slots.{has_zero, has_with_same, has_with_other, has_without_same, has_without_other, has-except, with_lt, except_lt, mask_ext}
@@ -30,9 +30,6 @@ use Rattle.folding.specs.Folding.{unstarted, folds, folded_of, kept, kept_of}
 -- ---- one beat
 
 module _ (kind waiting running slot : ℕ) where
-  pub folds_not : kind ≢ timer → false ≡ (eqb kind timer && unstarted waiting running slot)
-  folds_not h = sym (ap (λ (b : Bool). b && unstarted waiting running slot) (ne_eqb kind timer h))
-
   module _ (k : kind ≡ timer) where
     is : unstarted waiting running slot ≡ (eqb kind timer && unstarted waiting running slot)
     is = sym (ap (λ (b : Bool). b && unstarted waiting running slot) (eq-eqb kind timer k))

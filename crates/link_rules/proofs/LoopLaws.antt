@@ -1,5 +1,5 @@
 -- Where none is named twice, the callbacks on loops are those that next leads to from no head. Assumes nothing.
--- marks_start, marks-over, marks_more: the walk from one head. reached_in, reached_out: the heads in turn. known: what names_known says.
+-- marks-over, marks_more: the walk from one head. reached_in, reached_out: the heads in turn. known: what names_known says.
 -- loops_law: the slots that are not reached are those on loops. looped_law: the lowest of them.
 use mathlib.Core.Path.{◌≡◌, refl, sym, ap, ap₂, ◌∙◌, subst}
 use mathlib.Core.Logic.{◌⊎◌, inl, inr, ◌≢◌}
@@ -34,9 +34,6 @@ use Rattle.link_rules.proofs.Names.{names_once, off-loop, link_next, fed_by, hea
 -- ---- the walk from one head
 
 module _ (next : ℕ → ℕ) where
-  pub marks_start : (n x m : ℕ) → marks next (n - 0) x m ≡ marks next n x m
-  marks_start n x m = ap (λ (k : ℕ). marks next k x m) (omega arith)
-
   pub marks-over : (n k m : ℕ) → marks next (n - k) 0 m ≡ m
   unfolding marks
   marks-over n k m = go (n - k)

@@ -177,10 +177,6 @@ has_without_other m i k ne = has_without m i k ∙ ap (λ (b : Bool). has m k &&
 pub with_lt : (n m i : ℕ) → m < 2 ^ n → i < n → with_bit m i < 2 ^ n
 with_lt n m i h l = rw with_or (or_lt n m (2 ^ i) h (pow-lt l))
 
-pub without_le : (m i : ℕ) → without_bit m i ≤ m
-unfolding except
-without_le m i = rw without_except (omega arith)
-
 pub except_lt : (n a b : ℕ) → a < 2 ^ n → except a b < 2 ^ n
 unfolding except
 except_lt n a b h = omega arith

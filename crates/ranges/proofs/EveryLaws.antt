@@ -1,6 +1,6 @@
 -- Laws of tests, and of tests over the numbers below n.
 -- holds, T_holds: a test as a type and as an equation. never_both, flipped, and_holds, or_fails: of one test and of two.
--- within_passed, within_holds, contains_within: a number in a range. every: every_at, every_all, every_more, every_miss, every-same. some: some-hit, some-none, some_miss, some_fewer, some_more.
+-- within_passed, within_holds, contains_within: a number in a range. every: every_at, every_all, every_more, every_miss, every-same. some: some-hit, some-none, some_miss, some_more.
 use mathlib.Core.Path.{◌≡◌, refl, sym, ap, ap₂, ◌∙◌, subst}
 use mathlib.Core.Logic.{◌⊎◌, inl, inr}
 use mathlib.Core.Bool.{Bool, true, false, not, ◌&&◌, ◌||◌, cond, or-true, true≢false}
@@ -118,9 +118,6 @@ module _ (p : ℕ → Bool) where
       go : (b : Bool) → p i ≡ b → b ≡ false
       go true f = absurd (never_both (some n p) (some-hit n i l f) e)
       go false f = refl
-
-  pub some_fewer : (n i : ℕ) → some i p ≡ false → n ≤ i → some n p ≡ false
-  some_fewer n i e l = some-none n (λ j h. some_miss i j e (omega arith))
 
   -- one number more that fails, as a loop goes on
   pub some_more : (n : ℕ) → some n p ≡ false → p n ≡ false → some (n + 1) p ≡ false

@@ -1,15 +1,15 @@
--- Laws of the lent row as its places are written: bounds-length, row_start, row_more, row_length; and of what stands in them then: bounds_at, row_at.
+-- Laws of the lent row as its places are written: bounds-length, row_start, row_more; and of what stands in them then: bounds_at, row_at.
 use mathlib.Core.Path.{◌≡◌, refl, sym, ap, ◌∙◌}
 use mathlib.Core.Logic.{◌⊎◌, inl, inr}
 use mathlib.Core.List.{List, [], ◌∷◌, ◌++◌}
-use Prim.Native.Nat.{ℕ, zero, suc, ◌+◌, ◌≤◌, ◌<◌}
+use Prim.Native.Nat.{ℕ, zero, suc, ◌+◌, ◌<◌}
 use native.Mathlib.Nat.{eq-or-lt_of_le, le_of_suc-le-suc}
 use native.Mathlib.Numerals.{add-one}
 use native.Mathlib.Omega.{arith}
 use lib.ListN.{length, get_or, set, length-append, get_or-append}
 use lib.Seq.{get_or_at}
 use Rattle.lent.specs.Over.{over}
-use Rattle.lent.proofs.Replace.{over_nil, over_more, over-length}
+use Rattle.lent.proofs.Replace.{over_nil, over_more}
 use Rattle.table.specs.declared.Table.{Table}
 use Rattle.sheet.specs.Sheet.{bounds_to}
 use Rattle.levels.specs.Levels.{bound_of}
@@ -39,9 +39,6 @@ module _ (t : Table) (row : List ℕ) where
   row_more i h =
       let e : 0 + length (bounds_to t i) ≡ i = omega (arith, bounds-length t i) in
       over_more row 0 (bounds_to t i) (bound_of t i) i e h ∙ ap (λ (k : ℕ). over row 0 (bounds_to t k)) (sym (add-one i))
-
-  pub row_length : (i : ℕ) → i ≤ length row → length (over row 0 (bounds_to t i)) ≡ length row
-  row_length i h = over-length row 0 (bounds_to t i) (omega (arith, bounds-length t i))
 
   -- place i holds the bound of slot i
   pub row_at : (k i : ℕ) → i < k → get_or (over row 0 (bounds_to t k)) i 0 ≡ bound_of t i
