@@ -1,13 +1,15 @@
 -- What the exported functions are made of, test by test. Assumes nothing.
 -- start_short, start_size, start_refused, start_done, start_new: a start. tick_none, tick_refused, tick_done: a tick.
-use mathlib.Core.Path.{◌≡◌, sym, ap, ◌∙◌}
+use mathlib.Core.Path.{◌≡◌, sym, ap, ◌∙◌, subst}
 use mathlib.Core.Logic.{◌≢◌}
 use mathlib.Core.Bool.{true, false}
 use mathlib.Core.List.{List, ◌++◌}
 use Prim.Native.Nat.{ℕ, ◌<◌, ◌≤◌, ◌-◌}
 use native.Mathlib.Omega.{arith}
 use lib.ListN.{length, get_or, replicate, length-replicate, length-append}
-use borrow.Author.Tests.{eq-eqb, ne_eqb}
+use borrow.Author.Tests.{eq-eqb, ne_eqb, eqb-true, eqb-false}
+use lib.Dec.{eqb}
+use Rattle.std.specs.Result.{is_ok}
 use Rattle.lent.specs.Over.{over}
 use Rattle.lent.proofs.Replace.{over-over, over_all}
 use Rattle.table.specs.declared.Refusal.{Refusal}
@@ -23,7 +25,7 @@ use Rattle.answers.specs.Outcome.{reply_of}
 use Rattle.executor.specs.State.{fresh}
 use Rattle.executor.specs.Start.{start_of}
 use Rattle.executor.specs.Tick.{tick_of}
-use Rattle.executor.proofs.TickCases.{tick_table}
+use Rattle.executor.proofs.TickCases.{number_in, tick_is_ok, tick_table}
 use Rattle.layout.specs.Layout.{state_length, tail_start, laid_out, unpacked, packed_tail, packed}
 use Rattle.layout.proofs.LayoutLaws.{Laid, laid_out_lem, packed-fresh, packed-over}
 use Rattle.cuorfelt.specs.Edge.{start_fault, state_started, reply_to, no_state, is_set, tick_reply, state_ticked}
@@ -112,14 +114,22 @@ module _ (b : List ℕ) (mask supplied cost : ℕ) where
     unfolding tick_reply
     reply_is = er ∙ ap reply_to ticked_is ∙ rw (laid_out_lem b l, tick_reply)
 
-    pub tick_refused : r.number ≢ 0 → (r ≡ tick_reply b mask supplied cost) × (b ≡ state_ticked b mask supplied cost)
-    tick_refused h = (reply_is, same (λ z. h (ap (λ (y : Reply). y.number) reply_is ∙ z)))
+    -- the reply has number 0 where the tick is answered
+    number_is : is_ok x.outcome ≡ eqb r.number 0
+    unfolding reply_of
+    number_is =
+        subst (λ (y : Ticked). is_ok y.outcome ≡ eqb (number_in y) 0) (sym ex) (tick_is_ok m mask (is_set supplied) cost)
+        ∙ ap (λ (y : Reply). eqb y.number 0) (sym er)
 
-    pub tick_done : {s : List ℕ} → ((i : ℕ) → get_or b i 0 < 256) → r.number ≡ 0 → s ≡ over b tail_start (packed_tail x.machine)
+    pub tick_refused : is_ok x.outcome ≡ false → (r ≡ tick_reply b mask supplied cost) × (b ≡ state_ticked b mask supplied cost)
+    tick_refused f = (reply_is, same (λ z. eqb-false r.number 0 (sym number_is ∙ f) (ap (λ (y : Reply). y.number) reply_is ∙ z)))
+
+    pub tick_done : {s : List ℕ} → ((i : ℕ) → get_or b i 0 < 256) → is_ok x.outcome ≡ true → s ≡ over b tail_start (packed_tail x.machine)
         → length x.machine.waiting ≡ places → length x.machine.finished ≡ places
         → (r ≡ tick_reply b mask supplied cost) × (s ≡ state_ticked b mask supplied cost)
     unfolding state_ticked
-    tick_done bytes h es w f =
+    tick_done bytes done es w f =
+        let h : r.number ≡ 0 = eqb-true r.number 0 (sym number_is ∙ done) in
         let table : x.machine.table ≡ (unpacked b).table = ap (λ (y : Ticked). y.machine.table) ticked_is ∙ tick_table (unpacked b) mask (is_set supplied) cost in (
           reply_is,
           es

@@ -105,10 +105,8 @@ pub extern "C" fn cuorfelt_tick(state: &mut [u8], mask: u16, supplied: u8, cost:
         return no_state();
     };
     let x = m.tick_checked(mask, supplied != 0, cost);
-    let r = Reply::new(x.outcome, x.started, x.polled, x.gathered, x.folded);
-    if r.number != 0 {
-        return r;
+    if x.outcome.is_ok() {
+        layout::pack_tail(state, x.machine);
     }
-    layout::pack_tail(state, x.machine);
-    r
+    Reply::new(x.outcome, x.started, x.polled, x.gathered, x.folded)
 }

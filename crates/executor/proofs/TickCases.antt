@@ -1,17 +1,19 @@
 -- A tick that nothing refuses has its effect, and a refused one keeps its state. Assumes nothing.
 --   Passed, passed     what the refusals 29, 18, 19 and 20 leave
 --   tick_cases         what holds of the effect, and of a refused tick, holds of the tick
+--   tick_is_ok         it is answered where its refusal has number 0
 --   tick_table, refused_keeps, below_faulty    the table stays; so does a refused state; no refusal of a state without faults is 29
-use mathlib.Core.Path.{◌≡◌, refl}
+use mathlib.Core.Path.{◌≡◌, refl, sym}
 use mathlib.Core.Logic.{◌≢◌}
 use mathlib.Core.Bool.{Bool, true, false}
 use Prim.Native.Nat.{ℕ, zero, suc, ◌≤◌, ◌<◌}
 use native.Mathlib.Omega.{arith}
 use lib.Dec.{eqb, leb}
-use borrow.Author.Tests.{eqb-true, eqb-false, leb-false}
+use borrow.Author.Tests.{ne_eqb, eqb-true, eqb-false, leb-false}
 use Rattle.numbers.specs.Numbers.{most_ticks, longest, not_a_head, queue_full}
 use Rattle.ranges.specs.Every.{within}
 use Rattle.ranges.proofs.EveryLaws.{within_passed}
+use Rattle.std.specs.Result.{is_ok}
 use Rattle.table.specs.Values.{accepted, lowest_refused}
 use Rattle.table.specs.Links.{foreign}
 use Rattle.table.proofs.RefusalLaws.{lowest_zero}
@@ -65,6 +67,15 @@ module _ (m : Machine) (mask : ℕ) (supplied : Bool) (cost : ℕ) where
   effect-table : (effect m mask supplied cost).machine.table ≡ m.table
   unfolding unsupplied
   effect-table = effect_cases (λ o. o.machine.table ≡ m.table) m mask supplied cost (λ s. refl) (λ s e. refl) (λ i s e u. refl) (λ i s e u. refl)
+
+  -- an effect is an answer, and a refusal has a number
+  effect_is_ok : is_ok (effect m mask supplied cost).outcome ≡ eqb (number_in (effect m mask supplied cost)) 0
+  unfolding unsupplied
+  effect_is_ok = effect_cases (λ o. is_ok o.outcome ≡ eqb (number_in o) 0) m mask supplied cost (λ s. refl) (λ s e. refl) (λ i s e u. refl) (λ i s e u. refl)
+
+  pub tick_is_ok : is_ok (tick_of m mask supplied cost).outcome ≡ eqb (number_in (tick_of m mask supplied cost)) 0
+  unfolding refused
+  tick_is_ok = tick_cases (λ o. is_ok o.outcome ≡ eqb (number_in o) 0) (λ p. effect_is_ok) (λ h. sym (ne_eqb _ 0 h))
 
   pub tick_table : (tick_of m mask supplied cost).machine.table ≡ m.table
   unfolding refused

@@ -1,12 +1,13 @@
 // What the programs that test the library do alike: they read frames on standard input and print numbers on standard output.
 // A frame is two bytes of length, little-endian, then that many bytes, or those that are left. The end of the input ends the list, and so does a length
 // above LONGEST.
-// What is read and printed no contract can say. So all functions promise that they are safe and end, `read_up_to` that it stays within its buffer, and
-// `each` that a frame has at most LONGEST bytes.
+// What is read and printed no contract can say. So the functions promise that they are safe and end, `read_up_to` that it stays within its buffer, `read`
+// that all is there or nothing given, and `each` asks of what it calls that a frame of at most LONGEST bytes will do.
 
 #![tactic(auto)]
 
-ghost use Rattle.std.specs.Prelude.{◌≤◌, length};
+ghost use Rattle.std.specs.Prelude.{◌≡◌, ◌≤◌, length};
+ghost use Rattle.std.specs.Option.{IfSome};
 
 // The descriptors that are read from and written to.
 const STDIN_FILENO: i32 = 0;
@@ -27,17 +28,17 @@ pub fn read_up_to(buffer: &mut [u8]) -> &mut [u8]
 }
 
 // So many bytes of standard input as an array; None where fewer are left.
-pub fn read<const N: usize>() -> Option<[u8; N]> {
-    let mut bytes = [0; N];
-    if read_up_to(&mut bytes).len() < N {
-        return None;
-    }
-    Some(bytes)
+pub fn read<const N: usize>() -> Option<[u8; N]>
+    ensures { IfSome result (λ bytes. length bytes ≡ N) }
+{
+    let mut buffer = [0; N];
+    <[u8; N]>::try_from(read_up_to(&mut buffer)).ok()
 }
 
 // Gives each frame of standard input to `report`, until that returns None.
 pub fn each<F: FnMut(&mut [u8]) -> Option<()>>(mut report: F)
     requires { (state : F) (frame : _) → length frame.now ≤ LONGEST → F.pre state frame }
+    ensures { result ≡ tt }
 {
     for _ in 0..MOST {
         let Some(two) = read::<2>() else {
@@ -55,17 +56,24 @@ pub fn each<F: FnMut(&mut [u8]) -> Option<()>>(mut report: F)
 }
 
 // Prints text.
-pub fn print(text: &[u8]) {
+pub fn print(text: &[u8])
+    ensures { result ≡ tt }
+{
     io::write_all(STDOUT_FILENO, text);
 }
 
-// Prints a number.
-pub fn print_number(n: impl Into<u64>) {
+// Prints a number. By the kit's function, in these programs, and not by `Display`: that would need a `fmt::Write` over the descriptor as well, and each `fmt`
+// the same calls.
+pub fn print_number(n: impl Into<u64>)
+    ensures { result ≡ tt }
+{
     io::print_decimal(STDOUT_FILENO, n.into());
 }
 
 // Prints numbers, a space before each.
-pub fn print_fields<T: Copy + Into<u64>>(numbers: &[T]) {
+pub fn print_fields<T: Copy + Into<u64>>(numbers: &[T])
+    ensures { result ≡ tt }
+{
     for x in numbers {
         print(b" ");
         print_number(*x);

@@ -37,7 +37,8 @@ pub struct Printed {
     pub written: bool,
 }
 
-// A line of two numbers, parted by a space; whether it was written.
+// A line of two numbers, parted by a space; whether it was written. Printed by the kit's functions, here and below, and not by `Display`: that would need a
+// `fmt::Write` over the descriptor as well, and its `fmt` the same calls.
 fn print_pair(a: u64, b: u64) -> bool {
     io::print_decimal(STDOUT_FILENO, a)
         && io::write_all(STDOUT_FILENO, b" ")

@@ -18,20 +18,16 @@ pub struct Rewritten {
     pub written: bool,
 }
 
-// The bytes of a table, or the line of its refusal alone; whether all of it was written.
-fn write_table(bytes: &[u8], refusal: Refusal) -> bool {
-    if refusal.number != 0 {
-        return print_refusal(refusal);
-    }
-    io::write_all(STDOUT_FILENO, bytes)
-}
-
-// Normalises a table given as bytes, in place, and writes it.
+// Normalises a table given as bytes, in place, and writes it, or the line of its refusal alone.
 pub fn rewrite(bytes: &mut [u8]) -> Rewritten
     ensures { (result.refusal ≡ normalise_fault bytes.old) × (bytes.new ≡ normalised bytes.old) }
 {
-    let refusal = table::refusal_of(normaliser::normalise(bytes));
-    let written = write_table(bytes, refusal);
+    let normalised = normaliser::normalise(bytes);
+    let refusal = table::refusal_of(normalised);
+    let written = match normalised {
+        Ok(()) => io::write_all(STDOUT_FILENO, bytes),
+        Err(refusal) => print_refusal(refusal),
+    };
     Rewritten { refusal, written }
 }
 
