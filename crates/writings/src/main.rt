@@ -12,37 +12,42 @@ use frames::LONGEST;
 // What a buffer is filled with.
 const FILLING: u8 = 170;
 
-// The numbers of a frame, then zeros.
-fn unpack(frame: &[u8]) -> [u16; 512] {
-    let mut numbers = [0; 512];
-    for (number, two) in numbers.iter_mut().zip(frame.chunks_exact(2)) {
+// Writes the numbers of a frame over the zeros in `room`, and gives them: seven at least, those that the frame has not being 0.
+fn unpack<'a>(frame: &[u8], room: &'a mut [u16; 512]) -> &'a [u16]
+    requires { length frame.now ≤ 1024 }
+{
+    for (number, two) in room.iter_mut().zip(frame.chunks_exact(2)) {
         *number = u16::from_le_bytes([two[0], two[1]]);
     }
-    numbers
+    &room[..(frame.len() / 2).max(7)]
 }
 
 // Writes what a frame describes and reports on it; None where its buffer is too long.
 fn write(frame: &[u8]) -> Option<()>
     requires { length frame.now ≤ 1024 }
 {
-    let numbers = unpack(frame);
-    let [room, edition, count, budget, period, horizon, delay, ..] = numbers;
-    let room = usize::from(room);
-    if room > LONGEST {
-        return None;
-    }
-    let end = (frame.len() / 2).max(7);
-    let mut buffer = [FILLING; LONGEST];
-    let buffer = &mut buffer[..room];
-    let w = writer::described::write(
+    let mut zeros = [0; 512];
+    let &[
+        room,
         edition,
         count,
         budget,
         period,
         horizon,
         delay,
-        &numbers[7..end],
-        buffer,
+        ref records @ ..,
+    ] = unpack(frame, &mut zeros)
+    else {
+        return None;
+    };
+    let room = usize::from(room);
+    if room > LONGEST {
+        return None;
+    }
+    let mut buffer = [FILLING; LONGEST];
+    let buffer = &mut buffer[..room];
+    let w = writer::described::write(
+        edition, count, budget, period, horizon, delay, records, buffer,
     );
     frames::print_number(w.length);
     frames::print_fields(&[w.number, w.index]);
