@@ -48,7 +48,7 @@ pub fn finished(outcome: Outcome) -> u8
 }
 
 impl Reply {
-    // The reply of an outcome, with what stands beside it, one by one, since `Ticked` stands above, in `executor`.
+    // The reply of an outcome, with what stands beside it, one by one and as `reply_of` has it: bytes that hold no state have a reply, and no `Ticked`.
     pub fn new(outcome: Outcome, started: bool, polled: bool, gathered: u8, folded: u16) -> Reply
         ensures { result ≡ reply_of outcome started polled gathered folded }
     {

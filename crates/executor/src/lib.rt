@@ -24,7 +24,7 @@ pub struct Machine {
 }
 
 // What a tick gives: the next state, the outcome, and beside it flags for a start and for a polling point, with the number
-// of callbacks that it put in the cache, and the mask of the timers whose beat was folded.
+// of callbacks that it put in the cache, and the mask of the timers whose beat was folded. `polled` and `gathered` are two fields, since a reply has both.
 #[derive(Clone, Copy)]
 pub struct Ticked {
     pub machine: Machine,

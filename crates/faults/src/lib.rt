@@ -54,7 +54,8 @@ impl Slot {
     }
 }
 
-// Whether any slot is at fault. The parts of the state stand apart, as `Machine` has them in fields of its own: `executor` stands above.
+// Whether any slot is at fault. The parts of the state come one by one, as the definition has them: a struct of them would be made of a `Machine` for the
+// one call in `executor`.
 pub fn slots_fault(
     t: Table,
     cache: u16,

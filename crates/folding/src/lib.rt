@@ -23,7 +23,8 @@ fn folds(kind: u8, waiting: u16, running: u8, slot: u16) -> bool
     waiting > 0
 }
 
-// The timers of the mask of which an instance waits that has not started. The parts of the state come one by one: `Machine` stands above, in `executor`.
+// The timers of the mask of which an instance waits that has not started. The parts of the state come one by one, as `folded_of` has them: a struct of them
+// would be made of a `Machine` for the one call in `executor`.
 pub fn folded(t: Table, waiting: [u16; 16], running: u8, mask: u16) -> u16
     ensures { result ≡ folded_of t waiting running mask }
 {

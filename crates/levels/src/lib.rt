@@ -88,7 +88,7 @@ fn blocking(t: &Chained, below: u16) -> u16
     most.saturating_sub(1) as u16
 }
 
-// The bound of slot x over its level: itself and those of higher priority.
+// The bound of slot x over its level: itself and those of higher priority. Where the level has no window its length is 0, as `bound_of_level` has it.
 fn bound_of_level(t: &Chained, x: usize, window: u32) -> u32
     requires { (x < t.now.table.count) × (window ≡ window_of t.now.table) × (window ≤ longest) }
     ensures { (result ≡ bound_of_level t.now.table x) × (result ≤ longest) }

@@ -17,7 +17,7 @@ use priority::by_kind;
 use table::links::named;
 use table::{Callback, Refusal, Row, Table};
 
-// The mask with the slots that the walk along next from index x meets, in count steps at most.
+// The mask with the slots that the walk along next from index x meets, in count steps at most. An index of 0 ends the walk, as in the records and in `marks`.
 fn marked(t: Table, x: u8, mask: u16) -> u16
     requires { (t.count ≤ places) × (x ≤ t.count) × (names_known t ≡ true) }
     ensures { result ≡ marks (next_of t) t.count x mask }

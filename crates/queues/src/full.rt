@@ -21,7 +21,7 @@ fn first_full(waiting: [u16; 16], mask: u16) -> Option<u8>
 }
 
 // The lowest callback with 255 waiting, of the mask and of the one that is activated. No callback is activated where next is 0, or the
-// index of no place.
+// index of no place: any number, as a record may have it and `full_with` takes it.
 pub fn lowest_full(waiting: [u16; 16], mask: u16, next: u8) -> Option<u8>
     ensures { result ≡ some_index (full_with waiting mask next) }
 {

@@ -123,7 +123,8 @@ fn check_records(t: Table, spares: u16, sums: bool) -> Result<(), Refusal>
     Ok(())
 }
 
-// Refuses a table for what is wrong besides its edition and count; `spare` says that a spare byte of the header is not zero, `sums` that 24 is tested.
+// Refuses a table for what is wrong besides its edition and count; `spare` says that a spare byte of the header is not zero, `sums` that 24 is tested. Here and
+// above they come one by one, as `body_by`, `records_by` and `record_fault_by` have them.
 pub fn check_body(t: Table, spare: bool, spares: u16, sums: bool) -> Result<(), Refusal>
     requires { t.count ≤ places }
     ensures { result ≡ unless (body_by sums spare spares t) tt }

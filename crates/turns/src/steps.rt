@@ -10,7 +10,8 @@ use answers::Answer;
 use priority::by_kind;
 use table::Table;
 
-// Step 3: the turn of the callback that runs, or of the one chosen. The parts of the state come one by one: `Machine` stands above, in `executor`.
+// Step 3: the turn of the callback that runs, or of the one chosen. The parts of the state come one by one, as `turn_of` has them: a struct of them would be
+// made of a `Machine` for the one call in `executor`, and taken apart here.
 pub fn turn(t: Table, waiting: [u16; 16], cache: u16, running: u8, units: u16, cost: u16) -> Turn
     requires { t.count ≤ places }
     ensures { result ≡ turn_of t waiting cache running units cost }
