@@ -22,8 +22,8 @@ fn least_sum(entries: [u16; 8], sums: [u16; 8], k: u8) -> u16
     best as u16
 }
 
-// The entries with each of the first `used` replaced by the least sum over the ways to split its position; the others as they are. Eight places and how
-// many are used, as a record has them, since nothing here allocates.
+// The entries with each of the first `used` replaced by the least sum over the ways to split its position; the others as they are.
+// Eight places and how many of them are used, where a slice of those used would do for the sums: the clause also says what becomes of the others.
 pub fn closed(entries: [u16; 8], used: u8) -> [u16; 8]
     requires { used ≤ entry_places }
     ensures { result ≡ closed_of (take used entries) ++ drop used entries }

@@ -1,13 +1,13 @@
 -- Laws of the cost E(n): E(0) = 0, E(k) is the entry up to m, E(q × m + r) = q × E(m) + E(r), and E rises strictly where the entries do.
--- entry-take, entry-none, entry_at, cost_used, used_under: the entries as the code reads them, out of eight places of which the first m are used.
+-- entry-take, entry_at, cost_read: the entries as the code reads them. cost_under: no more than so much for each instance.
 use mathlib.Core.Path.{◌≡◌, refl, subst, sym, ap}
 use mathlib.Core.Logic.{◌⊎◌, inl, inr}
 use mathlib.Core.List.{List}
 use Prim.Native.Nat.{ℕ, zero, suc, ◌+◌, ◌*◌, ◌-◌, ◌/◌, ◌%◌, ◌≤◌, ◌<◌}
-use native.Mathlib.Nat.{div-add-mod', mod-lt, eq-or-lt_of_le, zero-add, zero-mul, le_refl, le_of_lt, mul-le-mul_left}
+use native.Mathlib.Nat.{div-add-mod', mod-lt, eq-or-lt_of_le, zero-add, zero-mul, mul-le-mul_left}
 use native.Mathlib.Omega.{arith}
 use lib.ListN.{length, get_or, take}
-use lib.Seq.{length-take-le, get_or-take}
+use lib.Seq.{get_or-take}
 use lib.Arith.{digits_div, digits_mod}
 use Rattle.curves.specs.Cost.{entry, cost}
 use Rattle.curves.specs.Parts.{RisingEntries}
@@ -69,24 +69,23 @@ pub entry-take : (es : List ℕ) (m k : ℕ) → k ≤ m → entry (take m es) k
 entry-take es m zero h = refl
 entry-take es m (suc k) h = get_or-take m es k 0 h
 
-pub entry-none : (es : List ℕ) (k : ℕ) → k ≡ 0 → entry es k ≡ 0
-entry-none es k h = ap (entry es) h
-
 pub entry_at : (es : List ℕ) (k : ℕ) → 0 < k → entry es k ≡ get_or es (k - 1) 0
 entry_at es zero h = absurd (omega arith)
 entry_at es (suc k) h = ap (λ (i : ℕ). get_or es i 0) (omega arith)
 
-module _ (es : List ℕ) (m n : ℕ) (some : 0 < m) where
-  -- E(n) by the first m of the places
-  pub cost_used : m ≤ length es → cost (take m es) n ≡ n / m * get_or es (m - 1) 0 + entry es (n % m)
+module _ (es : List ℕ) (n : ℕ) (some : 0 < length es) where
+  -- E(n)
+  pub cost_read : cost es n ≡ n / length es * get_or es (length es - 1) 0 + entry es (n % length es)
   unfolding cost
-  cost_used fits =
-      rw (length-take-le m es fits, entry-take es m m (le_refl m), entry-take es m (n % m) (le_of_lt (mod-lt n some)), entry_at es m some)
+  cost_read = rw (entry_at es (length es) some)
 
-  -- where no place holds more than b, n instances cost no more than b each
-  pub used_under : (b : ℕ) → ((k : ℕ) → get_or es k 0 ≤ b) → n / m * get_or es (m - 1) 0 + entry es (n % m) ≤ b * n
-  used_under b h = omega (arith, mul-le-mul_left (n / m) (h (m - 1)), last (n % m), mul-le-mul_left b fewer)
+  -- where no entry is above b, n instances cost no more than b each
+  pub cost_under : (b : ℕ) → ((k : ℕ) → get_or es k 0 ≤ b) → cost es n ≤ b * n
+  cost_under b h = omega (arith, cost_read, mul-le-mul_left (n / m) (h (m - 1)), last (n % m), mul-le-mul_left b fewer)
     where
+      m : ℕ
+      m = length es
+
       last : (k : ℕ) → entry es k ≤ b * k
       last zero = omega arith
       last (suc k) = omega (arith, h k)

@@ -3,7 +3,7 @@
 
 #![tactic(auto)]
 
-ghost use Rattle.std.specs.Prelude.{◌≡◌, ℕ, ◌<◌, ◌≤◌, ◌*◌, take};
+ghost use Rattle.std.specs.Prelude.{◌≡◌, ℕ, ◌<◌, ◌≤◌, ◌*◌, length};
 ghost use Rattle.numbers.specs.Numbers.{longest};
 ghost use Rattle.curves.specs.Parts.{max_length, reach as reach_of, reach_up_to};
 ghost use Rattle.curves.specs.Arrivals.{arrivals as arrivals_of};
@@ -22,15 +22,14 @@ pub fn arrivals(period: u32, jitter: u32, distance: u32, length: u32) -> u32
     periodic.min(spaced)
 }
 
-// E(count): the cost of that many consecutive instances, at most, by the first `used` of the entries; eight places, as a record has them, since nothing
-// here allocates.
-pub fn cost(entries: [u16; 8], used: u8, count: u32) -> u64
-    requires { (1 ≤ used) × (used ≤ 8) }
-    ensures { (result ≡ cost_of (take used entries) count) × (result ≤ 65535 * count) }
+// E(count): the cost of that many consecutive instances, at most, by the entries of a callback.
+pub fn cost(entries: &[u16], count: u32) -> u64
+    requires { (1 ≤ length entries.now) × (length entries.now ≤ 8) }
+    ensures { (result ≡ cost_of entries.now count) × (result ≤ 65535 * count) }
 {
-    let m = used as u32;
+    let m = entries.len() as u32;
     let rounds = (count / m) as u64;
-    let whole = rounds * entries[used as usize - 1] as u64;
+    let whole = rounds * entries[entries.len() - 1] as u64;
     let left = (count % m) as usize;
     if left == 0 {
         return whole;

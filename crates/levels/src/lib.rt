@@ -41,14 +41,15 @@ fn bound_of_all(t: &Chained, x: usize, window: u32) -> u32
     t.bound(everyone(t), x, window)
 }
 
-// Whether slot x has a higher priority than slot i, in the words of `precedes`: a pair of kind and slot for each would say it again.
+// Whether slot x has a higher priority than slot i: the kinds decide, and among equal kinds the slots.
+#[tactic(auto, unfolding(priority::specs::Priority::precedes))]
 fn goes_before(t: &Chained, x: usize, i: usize) -> bool
     requires { (x < places) × (i < places) }
     ensures { result ≡ precedes t.now.table x i }
 {
     let kind = t.table.callbacks[x].kind;
     let other = t.table.callbacks[i].kind;
-    kind < other || (kind == other && x < i)
+    (kind, x) < (other, i)
 }
 
 // The slots of lower priority than slot x.
@@ -71,8 +72,7 @@ fn single(c: Callback) -> u32
     requires { Costed c }
     ensures { (result ≡ single_of c) × (result ≤ 65535) }
 {
-    let entries = c.entries;
-    curves::cost(entries, c.used, 1) as u32
+    curves::cost(&c.entries[..c.used as usize], 1) as u32
 }
 
 // What an instance of a mask's slots may take from a level that comes when it has just started: the largest E(1), less the unit that it had.

@@ -54,8 +54,7 @@ fn work(c: Callback, head: Callback, length: u32) -> u64
     ensures { (result ≡ work_of c head length) × (result ≤ most_work) }
 {
     let count = arrivals(head, length);
-    let entries = c.entries;
-    curves::cost(entries, c.used, count)
+    curves::cost(&c.entries[..c.used as usize], count)
 }
 
 // A table without faults, with the head of each slot's chain, for the slots below count. The heads stand beside the table and not in its records: a record
