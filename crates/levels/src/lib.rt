@@ -11,8 +11,7 @@ ghost use Rattle.windows.specs.Parts.{found, Costed};
 ghost use Rattle.levels.specs.Levels.{overtakes as overtakes_of, lower_than, blocking_by, bound_of_level, bound_of};
 ghost use Rattle.levels.specs.Parts.{single_of};
 
-use numbers::EDITION_ONE;
-use table::{Callback, Kind};
+use table::{Callback, Edition, Kind};
 use windows::{Chained, Level};
 
 // All callbacks.
@@ -109,7 +108,7 @@ fn overtakes(t: &Chained, x: usize) -> bool
     requires { x < t.now.table.count }
     ensures { result ≡ overtakes_of t.now.table x }
 {
-    t.table.edition == EDITION_ONE && t.table.callbacks[x].kind == Kind::Timer as u8
+    t.table.edition == Edition::One as u8 && t.table.callbacks[x].kind == Kind::Timer as u8
 }
 
 // The number of slot x in the row. That x is a slot of the table and `window` the table's are clauses and no type's: they are facts of two values, and

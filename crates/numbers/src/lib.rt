@@ -1,4 +1,4 @@
-// The numbers of document 01, each under one name: limits, lengths and editions. Kinds and refusals are the enums of `table`.
+// The numbers of document 01, each under one name: limits and lengths. Editions, kinds and refusals are the enums of `table`.
 // specs/Numbers.antt has all of them for the definitions.
 
 #![tactic(auto)]
@@ -22,9 +22,3 @@ pub const DEFAULT_HORIZON: u16 = 60000;
 pub const MOST_WAITING: u16 = 255;
 
 pub const MOST_TICKS: u32 = 1000000000;
-
-// Editions: timers overtake the cache, or wait for a polling point as the rest do. Numbers and no enum: `check_head` asks for a range and others for one of
-// the two, while `polled` answers for a table with any number.
-pub const EDITION_ONE: u8 = 1;
-
-pub const EDITION_TWO: u8 = 2;

@@ -11,14 +11,14 @@ ghost use Rattle.rules.specs.Parts.{row_number};
 ghost use Rattle.rules.specs.Rules.{head_fault, supply_fault, entries_fault, joins, sums_fault, unused_fault, record_fault_by, records_by, body_by, fault_of};
 
 use link_rules::check_links;
-use numbers::{EDITION_ONE, EDITION_TWO, ENTRY_PLACES, LONGEST, PLACES};
-use table::{Callback, Kind, Refusal, Row, Table};
+use numbers::{ENTRY_PLACES, LONGEST, PLACES};
+use table::{Callback, Edition, Kind, Refusal, Row, Table};
 
 // Refuses a wrong edition, then a wrong count.
 pub fn check_head(edition: u8, count: u8) -> Result<(), Refusal>
     ensures { result ≡ unless (head_fault edition count) tt }
 {
-    if !(EDITION_ONE..=EDITION_TWO).contains(&edition) {
+    if Edition::try_from(edition).is_err() {
         return Err(Row::UnknownEdition.at(0));
     }
     if !(1..=PLACES).contains(&count) {

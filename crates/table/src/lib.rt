@@ -1,5 +1,5 @@
 // The callback table of document 01: its values, and what its links and kinds mean.
-// kinds: the kinds of callbacks. links: who is named, heads. rows: the rows of the table of refusals.
+// kinds: the kinds of callbacks. editions: the editions. links: who is named, heads. rows: the rows of the table of refusals.
 
 #![tactic(auto)]
 
@@ -7,10 +7,12 @@ ghost use Rattle.std.specs.Prelude.{◌≡◌, ℕ};
 ghost use Rattle.table.specs.Said.{refusal_in};
 ghost use Rattle.table.specs.Values.{refuse, blank_table, horizon_of};
 
+pub mod editions;
 pub mod kinds;
 pub mod links;
 pub mod rows;
 
+pub use editions::{Edition, UnknownEdition};
 pub use kinds::{Kind, UnknownKind};
 pub use rows::Row;
 

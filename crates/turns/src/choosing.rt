@@ -6,15 +6,14 @@ ghost use Rattle.turns.specs.Choosing.{polled};
 ghost use Rattle.turns.specs.Parts.{waits_of, choose_in};
 
 use super::{Choice, Waits};
-use numbers::EDITION_TWO;
 use priority::{Kinds, foremost};
-use table::{Kind, Table};
+use table::{Edition, Kind, Table};
 
 // Whether an edition gathers callbacks of a kind at polling points.
 pub fn polled(edition: u8, kind: u8) -> bool
     ensures { result ≡ polled edition kind }
 {
-    edition == EDITION_TWO || kind != Kind::Timer as u8
+    edition == Edition::Two as u8 || kind != Kind::Timer as u8
 }
 
 // The slots of the table that wait.

@@ -81,14 +81,16 @@ fn put_table(b: &mut [u8], t: Table)
     }
 }
 
-// What writing gives where it is refused. No From, since a Written is made of a length in one other place alone, below.
-fn refusing(r: Refusal) -> Written
-    ensures { result ≡ refused_writing r }
-{
-    Written {
-        length: 0,
-        number: r.number,
-        index: r.index,
+// A refusal: its number and index, and no length.
+impl From<Refusal> for Written {
+    ghost from_gives = { λ r w. w ≡ refused_writing r };
+
+    fn from(r: Refusal) -> Self {
+        Written {
+            length: 0,
+            number: r.number,
+            index: r.index,
+        }
     }
 }
 
@@ -98,11 +100,11 @@ pub fn write(t: Table, buffer: &mut [u8]) -> Written
     ensures { (result ≡ write_of t (length buffer.old)) × (buffer.new ≡ buffer_after t buffer.old) }
 {
     if let Err(r) = rules::check(t) {
-        return refusing(r);
+        return r.into();
     }
     let end = HEADER_LENGTH + RECORD_LENGTH * (t.count as usize);
     if buffer.len() < end {
-        return refusing(Row::ShortBuffer.at(0));
+        return Row::ShortBuffer.at(0).into();
     }
     put_table(buffer, t);
     Written {

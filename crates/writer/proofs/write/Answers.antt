@@ -16,7 +16,7 @@ returns-in-Err c =
     let a = c.args in
     let said = err_refused _ _ _ (sym c.check.ensures ∙ c.in-Err.is) in
     let x = writing_refused a.t a.buffer.now _ (write_refused a.t _ _ refl said.1) said.1 in
-    (c.refusing.ensures ∙ ap refused_writing said.0 ∙ sym x.0, sym x.1)
+    (c.into.ensures ∙ ap refused_writing said.0 ∙ sym x.0, sym x.1)
 
 -- no rule is broken
 faultless : (c : In_default) → (fault_of c.args.t).number ≡ 0
@@ -30,7 +30,7 @@ pub returns-then-buffer-end : goal.returns-then-buffer-end
 returns-then-buffer-end c =
     let a = c.args in
     let x = writing_refused a.t a.buffer.now _ (write_short a.t _ _ refl (faultless (goal.at.returns-then-buffer-end c).In_default) c.if-buffer-end.true) (λ e. omega arith) in
-    (c.refusing-then-buffer-end.ensures ∙ ap refused_writing c.at.ensures ∙ sym x.0, sym x.1)
+    (c.into-then-buffer-end.ensures ∙ ap refused_writing c.at.ensures ∙ sym x.0, sym x.1)
 
 pub put_table-requires : goal.put_table-requires
 put_table-requires c = (few (goal.at.put_table-requires c).In_default, c.if-buffer-end.false)

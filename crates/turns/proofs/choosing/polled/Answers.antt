@@ -3,10 +3,10 @@ use borrow.Author.Tests.{eq-eqb, ne_eqb}
 use Rattle.turns.specs.Choosing.{polled}
 use Rattle.turns.proofs.choosing.polled.Goals as goal
 
-pub returns-then-edition-eq-EDITION_TWO : goal.returns-then-edition-eq-EDITION_TWO
+pub returns-then-edition : goal.returns-then-edition
 unfolding polled
-returns-then-edition-eq-EDITION_TWO c = simp (eq-eqb _ _ c.if-edition-eq-EDITION_TWO.true)
+returns-then-edition c = simp (eq-eqb _ _ c.if-edition.true)
 
-pub returns-else-edition-eq-EDITION_TWO : goal.returns-else-edition-eq-EDITION_TWO
+pub returns-else-edition : goal.returns-else-edition
 unfolding polled
-returns-else-edition-eq-EDITION_TWO c = simp (ne_eqb _ _ c.if-edition-eq-EDITION_TWO.false)
+returns-else-edition c = simp (ne_eqb _ _ c.if-edition.false)
