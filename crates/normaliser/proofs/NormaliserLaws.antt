@@ -19,7 +19,6 @@ use Rattle.lent.specs.Over.{over}
 use Rattle.lent.proofs.Replace.{over-length}
 use Rattle.lent.proofs.Numbers.{length_run}
 use Rattle.table.specs.declared.Callback.{Callback}
-use Rattle.table.specs.declared.Refusal.{Refusal}
 use Rattle.table.specs.declared.Table.{Table}
 use Rattle.table.specs.Values.{accepted, unless, entries_of, callback_at}
 use Rattle.std.specs.Prelude.{Ok}

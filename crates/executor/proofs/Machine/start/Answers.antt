@@ -11,7 +11,6 @@ use Rattle.table.specs.Values.{unless}
 use Rattle.table.proofs.RefusalLaws.{refused, passed}
 use Rattle.reader.specs.Format.{table_at, read_fault}
 use Rattle.executor.specs.declared.Machine.{Machine}
-use Rattle.executor.specs.State.{fresh}
 use Rattle.executor.specs.Start.{start_of}
 use Rattle.executor.proofs.StartLaws.{start_err, start_ok}
 use Rattle.executor.proofs.Machine.start.Goals as goal
