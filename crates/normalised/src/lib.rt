@@ -1,3 +1,3 @@
-// Tables with lower costs: definitions and theorems, no functions.
+// A table with its cost entries normalised: definitions and theorems, no functions.
 
 #![tactic(auto)]
