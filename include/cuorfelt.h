@@ -8,7 +8,7 @@
  * uint16_t and the numbers of records lie at an even one, as C has it.
  * Threads. Any number of threads may call at once, if none writes memory that another one's call uses: a state belongs to
  * one call at a time, and so does a row, a buffer or a table that is normalised; else a table may be shared.
- * Stack. CUORFELT_STACK bytes suffice for any call. cuorfelt_tick was measured at 3,872 bytes, cuorfelt_analyse at 3,008; the rest is
+ * Stack. CUORFELT_STACK bytes suffice for any call. cuorfelt_tick was measured at 3,776 bytes, cuorfelt_analyse at 3,008; the rest is
  * for the loader, where it binds memcpy at the first call.
  *
  * A callback's index counts from 1, and is 0 where none is meant. */
