@@ -37,8 +37,8 @@ pub fn cost(entries: &[u16], count: u32) -> u64
     whole + entries[left - 1] as u64
 }
 
-// The least length whose supply is at least `demand`; for a demand above `most` the length past `most`, since no length supplies more ticks than it has. No Option:
-// the search compares the length, and ends past `most`.
+// The least length whose supply is at least `demand`; for a demand above `most` the length past `most`, since no length supplies more ticks than it has.
+// No Option: the search compares the length, and ends past `most`.
 // With that test first, 32 bits hold all that follows: at most 59,999 periods of 60,000 ticks, and beside them the delay, two gaps and a budget.
 pub fn reach(budget: u32, period: u32, delay: u32, most: u32, demand: u64) -> u32
     requires { (0 < budget) × (budget ≤ period) × (period ≤ longest) × (delay ≤ longest) × (most ≤ longest) }

@@ -28,7 +28,7 @@ impl Machine {
     }
 
     // Step 1: the state with the arrivals that are kept of the mask, those folded being known. The state is copied whole and then changed, here and
-    // twice below: built by `..self` it is copied field by field, and a tick takes 8 to 15 in a hundred longer (docs/DESIGN-PASS.md, 'Speed').
+    // below: built by `..self` it is copied field by field, and a tick takes 3 to 10 in a hundred longer (docs/DESIGN-PASS.md, 'Speed').
     fn arrive(self, mask: u16, folded: u16) -> Machine
         requires { (Room most_waiting self) × (folded ≡ folded_in self mask) }
         ensures { result ≡ arrive self mask }

@@ -9,7 +9,7 @@ use answers::Answer;
 use executor::{Machine, Ticked};
 use table::Refusal;
 
-// A line of a refusal: its number and its index.
+// A line of a refusal: its number and its index. Not that of `report`, which says whether all was written: nobody asks here, and what they share is a line.
 fn print_refusal(r: Refusal) {
     frames::print(b"refused");
     frames::print_fields(&[r.number, r.index]);

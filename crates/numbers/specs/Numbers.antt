@@ -1,4 +1,4 @@
--- The numbers of document 01, each under one name: limits, lengths, kinds and refusals. The code has limits, lengths and editions in src/lib.rt, kinds and refusals as enums of `table`.
+-- The numbers of document 01, each under one name: limits, lengths, kinds and refusals. The code has limits and lengths in src/lib.rt; editions, kinds and refusals are enums of `table`.
 use Rattle.std.specs.Prelude.{ℕ}
 
 -- callbacks of a table, and places of a lent row, at most; cost entries of a callback, at most

@@ -46,7 +46,7 @@ fn print_pair(a: u64, b: u64) -> bool {
         && io::write_all(STDOUT_FILENO, b"\n")
 }
 
-// The line of a refusal: its number and its index behind the word `refused`.
+// The line of a refusal: its number and its index behind the word `refused`. The one of `histories` says nothing of what was written.
 fn print_refusal(r: Refusal) -> bool {
     io::write_all(STDOUT_FILENO, b"refused ") && print_pair(r.number.into(), r.index.into())
 }
@@ -65,7 +65,7 @@ fn print_bounds(row: &[u16]) -> bool {
         .all(|(bound, i)| print_pair(i, u64::from(*bound)))
 }
 
-// The window and the bounds, or the refusal alone.
+// The window and the bounds, or the refusal alone. A sheet, as C has it, says by the number whether there is one; so does the clause of `status_by`.
 fn print_sheet(found: Sheet, row: &[u16]) -> bool {
     if found.refusal.number != 0 {
         return print_refusal(found.refusal);

@@ -1,5 +1,6 @@
 // The static library that the installed programs link (programs/bounds.c, programs/normalise.c): the two of the crate `report` that are whole programs,
-// each under its own name and with its own clause, again since a crate is a library or a static one. The handle takes no bytes: C declares and calls both with no argument.
+// each under its own name and with its own clause, again since a crate is a library or a static one. The handle takes no bytes: C declares and calls both
+// with no argument.
 
 #![tactic(auto)]
 

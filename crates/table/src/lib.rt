@@ -42,7 +42,8 @@ pub fn refusal_of<T: Copy>(said: Result<T, Refusal>) -> Refusal
     }
 }
 
-// One record: kind, next, m (how many of the cost entries are used), T, J, d, and the entries E(1) to E(8).
+// One record: kind, next, m (how many of the cost entries are used), T, J, d, and the entries E(1) to E(8). A count beside an array, since memory is fixed,
+// and since 5 refuses a record for what stands beyond m.
 #[derive(Clone, Copy)]
 pub struct Callback {
     pub kind: u8,
@@ -55,7 +56,8 @@ pub struct Callback {
 }
 
 // The header's numbers, H as given, and sixteen places. Nobody looks at those beyond count; a reading leaves them blank.
-// A count beside an array, since memory is fixed; and count, kind and the others are any numbers, since the rules and `writer::write` are given any and refuse them.
+// A count beside an array, since memory is fixed; and count, kind and the others are any numbers, since the rules and `writer::write` are given any and
+// refuse them.
 #[derive(Clone, Copy)]
 pub struct Table {
     pub edition: u8,

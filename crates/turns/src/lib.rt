@@ -7,8 +7,8 @@ pub mod choosing;
 pub mod steps;
 
 // An index is 0 for nobody here, and no Option, as in the state that it is taken from and goes into, which row 29 judges, and in `choose_in`, `turn_of` and
-// `step_of`; `polled` and `gathered` are two fields, since a reply has both. A turn has the four fields of a choice again, and no choice: where something runs there was none, and each use would take
-// it apart.
+// `step_of`; `polled` and `gathered` are two fields, since a reply has both. A turn has the four fields of a choice again, and no choice: where
+// something runs there was none, and each use would take it apart.
 
 // Whom step 3 chooses (0: nobody), the cache then, whether it polled, and how many the poll took.
 #[derive(Clone, Copy)]
