@@ -1,11 +1,12 @@
--- Laws of over: its length, one place more, two parts one behind the other, a part lent and given back, what stands behind it, and each place before and behind it. Assumes nothing.
+-- Laws of over: its length, one place more, two parts one behind the other, a copy as it goes on, a part lent and given back, what stands behind it, and each place before and behind it. Assumes nothing.
 use mathlib.Core.Path.{◌≡◌, sym, ap, ap₂, ◌∙◌}
 use mathlib.Core.List.{List, [], ◌∷◌, ◌++◌, append_assoc, append-nil}
 use Prim.Native.Nat.{ℕ, suc, ◌≤◌, ◌<◌, ◌+◌, ◌-◌}
+use native.Mathlib.Numerals.{add-one}
 use native.Mathlib.Nat.{add-zero}
 use native.Mathlib.Omega.{arith}
 use lib.ListN.{length, take, drop, set, get_or, length-append, length-drop, take-append-drop, drop_of_length-le, get_or-append}
-use lib.Seq.{drop-cons, set_at, length-take-le, take_at, drop_at, drop-drop, get_or-take, get_or-drop}
+use lib.Seq.{drop-cons, set_at, length-take-le, take_at, drop_at, drop-drop, take-suc, get_or-take, get_or-drop}
 use Rattle.lent.specs.Over.{over}
 
 module _ (b : List ℕ) (k : ℕ) where
@@ -60,6 +61,13 @@ module _ (b : List ℕ) (k : ℕ) where
       ap₂ (λ (x y : List ℕ). x ++ (ws ++ y)) t d
       ∙ append_assoc (take k b) vs (ws ++ drop (k + length (vs ++ ws)) b)
       ∙ ap (λ (x : List ℕ). take k b ++ x) (sym (append_assoc vs ws (drop (k + length (vs ++ ws)) b)))
+
+  -- a copy, one element more
+  pub over-take : (ws : List ℕ) (i : ℕ) → i < length ws → k + i < length b
+      → set (over b k (take i ws)) (k + i) (get_or ws i 0) ≡ over b k (take (i + 1) ws)
+  over-take ws i h l =
+      over_more (take i ws) (get_or ws i 0) (k + i) (ap (λ (j : ℕ). k + j) (length-take-le i ws (omega arith))) l
+      ∙ ap (over b k) (sym (take-suc ws i 0 h) ∙ ap (λ (j : ℕ). take j ws) (sym (add-one i)))
 
 -- a part lent and given back with other elements
 pub over-part : (b vs : List ℕ) (k n : ℕ) → n ≡ length vs → take k b ++ (vs ++ drop n (drop k b)) ≡ over b k vs

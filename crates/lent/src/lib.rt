@@ -132,12 +132,15 @@ pub fn get_all<T: Number, const N: usize>(b: &[u8], at: usize) -> [T; N]
     all
 }
 
-// Writes all of `from` to the bytes from `at` on.
+// Writes all of `from` to the bytes from `at` on. Byte by byte: the slice's `copy_from_slice` is the C library's memmove, and a host is promised that
+// memcpy and memset are all that is needed of it.
 pub fn copy(b: &mut [u8], at: usize, from: &[u8])
     requires { at + length from.now ≤ length b.old }
     ensures { b.new ≡ over b.old at from.now }
 {
-    b[at..at + from.len()].copy_from_slice(from);
+    for i in 0..from.len() {
+        b[at + i] = from[i];
+    }
 }
 
 // Writes zero to `count` bytes from `at` on.
