@@ -1,13 +1,14 @@
 -- Reading the bytes of a table: its spare bytes, its records in turn, and the reader as a whole. Assumes nothing.
 -- numbers_from: where numbers begin. spare_first, spare_second, spare_third: a record's spare bytes. table-whole: all records under their header.
 -- read_short, read_head, read_off, read_whole: the reader, test by test. reading_refused, reading-whole: what `read_by` says.
--- read_err, read_ok: what the code hands back.
+-- read_err, read_ok, read_both: what the code hands back.
 use mathlib.Core.Path.{◌≡◌, refl, sym, ap, ap₂, ◌∙◌}
 use mathlib.Core.Logic.{◌≢◌}
 use mathlib.Core.Bool.{Bool, true, false, not, and-false}
 use mathlib.Core.List.{List, [], ◌∷◌}
 use Prim.Native.Nat.{ℕ, zero, suc, ◌+◌, ◌-◌, ◌≤◌, ◌<◌}
 use native.Mathlib.Omega.{arith}
+use native.Mathlib.Decide.{ℕ_discrete}
 use lib.Dec.{eqb}
 use lib.ListN.{length, get_or}
 use borrow.Author.Tests.{eq-eqb, ne_eqb, lt-ltb, le-ltb}
@@ -15,8 +16,8 @@ use Rattle.numbers.specs.Numbers.{header_length, short_header, wrong_length}
 use Rattle.lent.specs.Bytes.{get, numbers, zeros, fields_at}
 use Rattle.table.specs.declared.Refusal.{Refusal}
 use Rattle.table.specs.declared.Table.{Table}
-use Rattle.std.specs.Prelude.{Ok, Err}
-use Rattle.table.specs.Values.{refuse, unless, table_of, headless}
+use Rattle.std.specs.Prelude.{Result, Ok, Err}
+use Rattle.table.specs.Values.{refuse, unless, table_of, blank_table, headless}
 use Rattle.table.proofs.RefusalLaws.{first_refused, first_passed, refused, passed}
 use Rattle.rules.specs.Rules.{head_fault, body_by}
 use Rattle.reader.specs.Format.{Reading, header_clear, spare_at, record_start, records_to, table_at, spares_at, whole_by, read_fault_by, refused_reading, read_by}
@@ -108,3 +109,17 @@ module _ (sums : Bool) (b : List ℕ) where
 
     pub read_ok : r.number ≡ 0 → unless (read_fault_by sums b) (table_at b) ≡ Ok (table_at b)
     read_ok e = ap (λ (x : Refusal). unless x (table_at b)) so ∙ passed r (table_at b) e
+
+  -- and what `read_by` has side by side is the same
+  beside : unless (read_fault_by sums b) (table_at b) ≡ unless (read_by sums b).refusal (read_by sums b).table
+  beside = go (ℕ_discrete (read_fault_by sums b).number 0)
+    where
+      go : Dec ((read_fault_by sums b).number ≡ 0) → unless (read_fault_by sums b) (table_at b) ≡ unless (read_by sums b).refusal (read_by sums b).table
+      go (yes e) = sym (ap (λ (x : Reading). unless x.refusal x.table) (reading-whole (read_fault_by sums b) refl e))
+      go (no h) =
+          refused (read_fault_by sums b) (table_at b) h
+          ∙ sym (ap (λ (x : Reading). unless x.refusal x.table) (reading_refused (read_fault_by sums b) refl h) ∙ refused (read_fault_by sums b) blank_table h)
+
+  pub read_both : {r : Result Table Refusal} → r ≡ unless (read_fault_by sums b) (table_at b)
+      → (r ≡ unless (read_fault_by sums b) (table_at b)) × (r ≡ unless (read_by sums b).refusal (read_by sums b).table)
+  read_both e = (e, e ∙ beside)

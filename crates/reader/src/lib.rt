@@ -5,7 +5,7 @@
 ghost use Rattle.std.specs.Prelude.{◌≡◌, ℕ, ◌+◌, ◌≤◌, length, get_or};
 ghost use Rattle.numbers.specs.Numbers.{places};
 ghost use Rattle.table.specs.Values.{unless};
-ghost use Rattle.reader.specs.Format.{record_at, spare_at, record_start, spares_at, table_at, read_fault, read_fault_by};
+ghost use Rattle.reader.specs.Format.{record_at, spare_at, record_start, spares_at, table_at, read_fault, read_fault_by, read_of, read_by};
 
 use numbers::{HEADER_LENGTH, RECORD_LENGTH};
 use table::{Callback, Refusal, Row, Table};
@@ -72,7 +72,7 @@ fn table_at(b: &[u8]) -> Table
 
 // Reads a table, of any length: the table, or the refusal. `sums` says that 24 is tested.
 pub fn read_by(bytes: &[u8], sums: bool) -> Result<Table, Refusal>
-    ensures { result ≡ unless (read_fault_by sums bytes.now) (table_at bytes.now) }
+    ensures { (result ≡ unless (read_fault_by sums bytes.now) (table_at bytes.now)) × (result ≡ unless (read_by sums bytes.now).refusal (read_by sums bytes.now).table) }
 {
     if bytes.len() < HEADER_LENGTH {
         return Err(Row::ShortHeader.at(0));
@@ -90,7 +90,7 @@ pub fn read_by(bytes: &[u8], sums: bool) -> Result<Table, Refusal>
 
 // Reads a table by all rules.
 pub fn read(bytes: &[u8]) -> Result<Table, Refusal>
-    ensures { result ≡ unless (read_fault bytes.now) (table_at bytes.now) }
+    ensures { (result ≡ unless (read_fault bytes.now) (table_at bytes.now)) × (result ≡ unless (read_of bytes.now).refusal (read_of bytes.now).table) }
 {
     read_by(bytes, true)
 }

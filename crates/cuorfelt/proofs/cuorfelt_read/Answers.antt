@@ -5,4 +5,4 @@ use Rattle.reader.proofs.Accepted.{said_by}
 use Rattle.cuorfelt.proofs.cuorfelt_read.Goals as goal
 
 pub returns : goal.returns
-returns c = c.refusal_of.ensures ∙ ap refusal_in c.read.ensures ∙ said_by _ _ _
+returns c = c.refusal_of.ensures ∙ ap refusal_in c.read.ensures.0 ∙ said_by _ _ _

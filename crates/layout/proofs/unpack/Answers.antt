@@ -29,13 +29,13 @@ returns-then-not-all_zero c =
     ])
 
 pub returns-in_default : goal.returns-in_default
-returns-in_default c = none_in _ (λ l. part_refused c.args.state.now (sym c.read_by.ensures ∙ c.in_default.is) l.read)
+returns-in_default c = none_in _ (λ l. part_refused c.args.state.now (sym c.read_by.ensures.0 ∙ c.in_default.is) l.read)
 
 pub returns : goal.returns
 unfolding unpacked
 returns c =
     let b = c.args.state.now in
-    let read = part_read b (sym c.read_by.ensures ∙ c.in-Ok.is) in
+    let read = part_read b (sym c.read_by.ensures.0 ∙ c.in-Ok.is) in
     let l : Laid b = record {
       size = c.if-state-ne-STATE_LENGTH.false;
       read = read.1;

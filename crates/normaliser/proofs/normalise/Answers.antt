@@ -19,13 +19,13 @@ use Rattle.normaliser.proofs.normalise.Goals.{In_ok-t}
 
 pub returns-in_err-t : goal.returns-in_err-t
 returns-in_err-t c =
-    let said = err_refused _ _ _ (sym c.read_by.ensures ∙ c.in_err-t.was) in
+    let said = err_refused _ _ _ (sym c.read_by.ensures.0 ∙ c.in_err-t.was) in
     let p = err_from_is_err_and c.from_residual.result c.from_residual.ensures.1 in
     (p.1 ∙ ap Err (p.2 ∙ said.0) ∙ sym (refused _ tt said.1), sym (normalised-refused _ said.1))
 
 -- what was read, where the loop goes on from
 read : (c : In_ok-t) → Taken c.args.bytes.now c.in_ok-t.t
-read c = taken _ _ (sym c.read_by.ensures ∙ c.in_ok-t.was)
+read c = taken _ _ (sym c.read_by.ensures.0 ∙ c.in_ok-t.was)
 
 pub loop-i-init : goal.loop-i-init
 unfolding closed_to

@@ -21,20 +21,20 @@ returns-then-row c = let o = short_row_lem c.args.bytes.now c.args.row.now c.if-
 
 pub returns-in_err-read : goal.returns-in_err-read
 returns-in_err-read c =
-    let said = err_refused _ _ _ (sym c.in_err-read.ensures) in
+    let said = err_refused _ _ _ (sym c.in_err-read.ensures.0) in
     let o = misread c.args.bytes.now c.args.row.now c.if-row.false said.1 in
     let p = err_from_is_err_and c.from_residual.result c.from_residual.ensures.1 in
     (p.1 ∙ ap Err (p.2 ∙ said.0) ∙ o.0, o.1)
 
 pub bounded-requires : goal.bounded-requires
 bounded-requires c =
-    let read = ok_passed _ _ _ (sym c.in_ok-read.ensures) in
+    let read = ok_passed _ _ _ (sym c.in_ok-read.ensures.0) in
     (subst Sound (sym read.0) (read_sound _ read.1), omega arith)
 
 pub returns : goal.returns
 returns c =
     let row : List ℕ = c.args.row.now in
-    let read = ok_passed _ _ _ (sym c.in_ok-read.ensures) in
+    let read = ok_passed _ _ _ (sym c.in_ok-read.ensures.0) in
     let o = well_read c.args.bytes.now row c.if-row.false read.1 in (
       c.bounded.ensures.0 ∙ ap (λ (t : Table). unless (sheet_fault t) (window_of t)) read.0 ∙ o.0,
       c.bounded.ensures.1 ∙ ap (λ (t : Table). table_row t row) read.0 ∙ o.1,

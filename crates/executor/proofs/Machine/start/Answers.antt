@@ -28,6 +28,6 @@ returns c = go (ℕ_discrete (read_fault c.args.bytes.now).number 0)
 
     go : Dec ((read_fault b).number ≡ 0) → c.map.result ≡ unless (start_of b).refusal (start_of b).machine
     go (yes e) =
-        known _ _ (MatchResult-at_ok _ _ (table_at b) (c.read.ensures ∙ passed (read_fault b) (table_at b) e) c.map.ensures.cases) ∙ sym (start_ok b e)
+        known _ _ (MatchResult-at_ok _ _ (table_at b) (c.read.ensures.0 ∙ passed (read_fault b) (table_at b) e) c.map.ensures.cases) ∙ sym (start_ok b e)
     go (no h) =
-        MatchResult-at_err _ _ (read_fault b) (c.read.ensures ∙ refused (read_fault b) (table_at b) h) c.map.ensures.cases ∙ sym (start_err b h)
+        MatchResult-at_err _ _ (read_fault b) (c.read.ensures.0 ∙ refused (read_fault b) (table_at b) h) c.map.ensures.cases ∙ sym (start_err b h)
