@@ -2,11 +2,11 @@
 // A frame is two bytes of length, little-endian, then that many bytes, or those that are left. The end of the input ends the list, and so does a length
 // above LONGEST.
 // What is read and printed no contract can say. So the functions promise that they are safe and end, `read_up_to` that it stays within its buffer, `read`
-// that all is there or nothing given, and `each` asks of what it calls that a frame of at most LONGEST bytes will do.
+// that all is there or nothing given, `numbers` how many it gives, and `each` asks of what it calls that a frame of at most LONGEST bytes will do.
 
 #![tactic(auto)]
 
-ghost use Rattle.std.specs.Prelude.{◌≡◌, ◌≤◌, length};
+ghost use Rattle.std.specs.Prelude.{◌≡◌, ◌≤◌, ◌/◌, max, length};
 ghost use Rattle.std.specs.Option.{IfSome};
 
 // The descriptors that are read from and written to.
@@ -53,6 +53,17 @@ pub fn each<F: FnMut(&mut [u8]) -> Option<()>>(mut report: F)
             return;
         }
     }
+}
+
+// Writes the numbers of a frame, two bytes each, over the zeros in `room`, and gives them: so many at least, those that the frame has not being 0.
+pub fn numbers<'a>(frame: &[u8], least: usize, room: &'a mut [u16; 512]) -> &'a [u16]
+    requires { (length frame.now ≤ 1024) × (least ≤ 512) }
+    ensures { length result.now ≡ max (length frame.now / 2) least }
+{
+    for (number, two) in room.iter_mut().zip(frame.chunks_exact(2)) {
+        *number = u16::from_le_bytes([two[0], two[1]]);
+    }
+    &room[..(frame.len() / 2).max(least)]
 }
 
 // Prints text.

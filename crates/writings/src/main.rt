@@ -12,14 +12,12 @@ use frames::LONGEST;
 // What a buffer is filled with.
 const FILLING: u8 = 170;
 
-// Writes the numbers of a frame over the zeros in `room`, and gives them: seven at least, those that the frame has not being 0.
+// The numbers of a frame, over the zeros in `room`: seven at least, those before the records', of which the ones that it has not are 0.
 fn unpack<'a>(frame: &[u8], room: &'a mut [u16; 512]) -> &'a [u16]
     requires { length frame.now ≤ 1024 }
+    ensures { (7 ≤ length result.now) × (length result.now ≤ 512) }
 {
-    for (number, two) in room.iter_mut().zip(frame.chunks_exact(2)) {
-        *number = u16::from_le_bytes([two[0], two[1]]);
-    }
-    &room[..(frame.len() / 2).max(7)]
+    frames::numbers(frame, 7, room)
 }
 
 // Writes what a frame describes and reports on it; None where its buffer is too long.
