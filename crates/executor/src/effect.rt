@@ -45,7 +45,7 @@ impl Machine {
         ensures { result ≡ unsupplied self folded }
     {
         let mut machine = self;
-        machine.clock = self.clock + 1;
+        machine.clock += 1;
         Ticked {
             machine,
             outcome: Ok(Answer::NoSupply),

@@ -62,5 +62,5 @@ check_links-requires c = (c.requires, records_known c.args.sums c.args.spares c.
 pub returns : goal.returns
 returns c =
     let (_, none) = ok_passed _ _ _ (sym c.check_records.ensures ∙ c.in_ok-check_records.was) in
-    let left = rest c.args.sums _ c.args.spares c.args.t c.if-spare.false (sym c.supply_fault.ensures ∙ c.if-supply_fault.false) c.if-t-gt-LONGEST.false c.if-t-gt-LONGEST-2.false in
-    c.check_links.ensures ∙ sym (ap (λ (r : Refusal). unless r tt) left ∙ passed_first _ _ tt none)
+    let behind = rest c.args.sums _ c.args.spares c.args.t c.if-spare.false (sym c.supply_fault.ensures ∙ c.if-supply_fault.false) c.if-t-gt-LONGEST.false c.if-t-gt-LONGEST-2.false in
+    c.check_links.ensures ∙ sym (ap (λ (r : Refusal). unless r tt) behind ∙ passed_first _ _ tt none)
